@@ -1,0 +1,116 @@
+-- The cases of reading and writing, each as one law. The crates above cite these.
+use mathlib.Core.Path.{_≡_, refl, ap, _∙_}
+use mathlib.Core.List.{List, _++_}
+use mathlib.Core.Bool.{Bool, true, false}
+use Prim.Native.Nat.{ℕ, _≤_, _<_}
+use native.Mathlib.Omega.{arith}
+use lib.ListN.{length, drop}
+use lib.Dec.{ltb, eqb}
+use borrow.Author.Tests.{lt-ltb, le-ltb, eq-eqb, ne-eqb, ltb-false}
+use Rattle.wire.specs.declared.table.Layout.{Layout}
+use Rattle.wire.specs.declared.table.Shape.{Shape}
+use Rattle.wire.specs.declared.fields.Fault.{Fault}
+use Rattle.wire.specs.declared.Message.{Message}
+use Rattle.wire.specs.Outcome.{Outcome, done, refused}
+use Rattle.wire.specs.Bytes.{padded, part}
+use Rattle.wire.specs.Table.{shapeOf}
+use Rattle.wire.specs.Fields.{fieldsAt, faultOf}
+use Rattle.wire.specs.Message.{messageOf, fieldsOf, typeOf}
+use Rattle.wire.specs.Reading as reading
+use Rattle.wire.specs.Reading.{msgSize, msgType, reachBy, reachOf, Read, readBy, readBody, readSized, readShape, readTyped, readReached, readOf}
+use Rattle.wire.specs.Writing as writing
+use Rattle.wire.specs.Writing.{Write, imageOf, writeSized, writeBy, writeShape, writeOf}
+
+-- ---- how far a message reaches
+module _ (s : List ℕ) where
+  pub reach-short : length s < 4 → reachOf s ≡ refused 1
+  unfolding reachOf reachBy
+  reach-short h = rw (lt-ltb _ _ h)
+
+  pub reach-small : 4 ≤ length s → msgSize s < 4 → reachOf s ≡ refused 2
+  unfolding reachOf reachBy
+  reach-small h k = rw (le-ltb _ _ h, lt-ltb _ _ k)
+
+  pub reach-beyond : 4 ≤ length s → 4 ≤ msgSize s → length s < msgSize s → reachOf s ≡ refused 1
+  unfolding reachOf reachBy
+  reach-beyond h k m = rw (le-ltb _ _ h, le-ltb _ _ k, lt-ltb _ _ m)
+
+  pub reach-size : 4 ≤ length s → 4 ≤ msgSize s → msgSize s ≤ length s → reachOf s ≡ done (msgSize s)
+  unfolding reachOf reachBy
+  reach-size h k m = rw (le-ltb _ _ h, le-ltb _ _ k, le-ltb _ _ m)
+
+-- a message that is reached has its Msg Size, four bytes or more, all of them there
+pub record Reached (s : List ℕ) (n : ℕ) : Type 0 where
+  pub size : msgSize s ≡ n
+  pub least : 4 ≤ n
+  pub there : n ≤ length s
+
+reached-by : (s : List ℕ) (n : ℕ) (short below beyond : Bool) → ltb (msgSize s) 4 ≡ below → ltb (length s) (msgSize s) ≡ beyond →
+    reachBy short below beyond (msgSize s) ≡ done n → Reached s n
+unfolding reachBy
+reached-by s n true below beyond p q e = let z : _≡_ {A = ℕ} 0 1 = cc in absurd (omega arith)
+reached-by s n false true beyond p q e = let z : _≡_ {A = ℕ} 0 1 = cc in absurd (omega arith)
+reached-by s n false false true p q e = let z : _≡_ {A = ℕ} 0 1 = cc in absurd (omega arith)
+reached-by s n false false false p q e =
+    let same : msgSize s ≡ n = cc in
+    record { size = same; least = omega (arith, ltb-false (msgSize s) 4 p); there = omega (arith, ltb-false (length s) (msgSize s) q) }
+
+pub reached : (s : List ℕ) (n : ℕ) → reachOf s ≡ done n → Reached s n
+unfolding reachOf
+reached s n e = reached-by s n (ltb (length s) 4) (ltb (msgSize s) 4) (ltb (length s) (msgSize s)) refl refl e
+
+-- ---- reading
+module _ (s : List ℕ) where
+  pub read-unreached : (n : ℕ) → reachOf s ≡ refused n → readOf s ≡ reading.refuse n
+  unfolding readOf readReached
+  read-unreached n e = ap (λ (x : Outcome ℕ). readReached x s) e
+
+  pub read-reached : (size : ℕ) → reachOf s ≡ done size → readOf s ≡ readTyped s size
+  unfolding readOf readReached
+  read-reached size e = ap (λ (x : Outcome ℕ). readReached x s) e
+
+  pub read-unknown : (size : ℕ) → shapeOf (msgType s) ≡ Shape.Unknown → readTyped s size ≡ reading.refuse 3
+  unfolding readTyped readShape
+  read-unknown size e = ap (λ (x : Shape). readShape x s size) e
+
+  module _ (size : ℕ) (l : Layout) (known : shapeOf (msgType s) ≡ Shape.Known l) where
+    pub read-other-size : (size ≡ l .size → ⊥) → readTyped s size ≡ reading.refuse 2
+    unfolding readTyped readShape readSized
+    read-other-size h = ap (λ (x : Shape). readShape x s size) known ∙ rw (ne-eqb _ _ h)
+
+    pub read-size : size ≡ l .size → readTyped s size ≡ readBody s l
+    unfolding readTyped readShape readSized
+    read-size h = ap (λ (x : Shape). readShape x s size) known ∙ rw (eq-eqb _ _ h)
+
+  pub read-bad-field : (l : Layout) (n : ℕ) → faultOf l (fieldsAt s l) ≡ Fault.At n → readBody s l ≡ reading.refuse 4
+  unfolding readBody readBy
+  read-bad-field l n e = ap (λ (f : Fault). readBy f s l) e
+
+  pub read-good : (l : Layout) → faultOf l (fieldsAt s l) ≡ Fault.Nothing →
+      readBody s l ≡ record { outcome = done (messageOf (l .kind) (fieldsAt s l)); plain = padded (part s (l .plain) (l .pad)) }
+  unfolding readBody readBy
+  read-good l e = ap (λ (f : Fault). readBy f s l) e
+
+-- ---- writing
+module _ (m : Message) (plain out : List ℕ) where
+  pub write-unknown : shapeOf (typeOf m) ≡ Shape.Unknown → writeOf m plain out ≡ writing.refuse 3 out
+  unfolding writeOf writeShape
+  write-unknown h = ap (λ (x : Shape). writeShape x m plain out) h
+
+  module _ (l : Layout) (known : shapeOf (typeOf m) ≡ Shape.Known l) where
+    write-known : writeOf m plain out ≡ writeBy (faultOf l (fieldsOf m)) l m plain out
+    unfolding writeOf writeShape
+    write-known = ap (λ (x : Shape). writeShape x m plain out) known
+
+    pub write-bad-field : (n : ℕ) → faultOf l (fieldsOf m) ≡ Fault.At n → writeOf m plain out ≡ writing.refuse 4 out
+    unfolding writeBy
+    write-bad-field n k = write-known ∙ ap (λ (x : Fault). writeBy x l m plain out) k
+
+    pub write-no-room : faultOf l (fieldsOf m) ≡ Fault.Nothing → length out < l .size → writeOf m plain out ≡ writing.refuse 15 out
+    unfolding writeBy writeSized
+    write-no-room k g = write-known ∙ ap (λ (x : Fault). writeBy x l m plain out) k ∙ rw (lt-ltb _ _ g)
+
+    pub write-good : faultOf l (fieldsOf m) ≡ Fault.Nothing → l .size ≤ length out →
+        writeOf m plain out ≡ record { outcome = done (l .size); out = imageOf l (typeOf m) (fieldsOf m) plain ++ drop (l .size) out }
+    unfolding writeBy writeSized
+    write-good k g = write-known ∙ ap (λ (x : Fault). writeBy x l m plain out) k ∙ rw (le-ltb _ _ g)

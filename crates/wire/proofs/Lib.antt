@@ -1,0 +1,5 @@
+pub mod Numbers
+pub mod ByteArrays
+pub mod Layouts
+pub mod Laying
+pub mod Cases

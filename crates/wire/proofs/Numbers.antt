@@ -1,0 +1,93 @@
+-- Laws of numbers as bytes, over every width.
+use mathlib.Core.Path.{_≡_, refl, sym, ap, _∙_}
+use mathlib.Core.List.{List, [], _∷_, _++_, append-nil}
+use Prim.Native.Nat.{ℕ, zero, suc, _+_, _*_, _-_, _/_, _%_, _^_, _≤_, _<_}
+use native.Mathlib.Nat.{pow-suc, pow-le-pow-right}
+use native.Mathlib.Numerals.{add-one}
+use native.Mathlib.Omega.{arith}
+use lib.ListN.{length, take, drop, set, getD, take-append-drop}
+use lib.Seq.{slice-cons, slice-empty, length-slice, take-suc-set, append-snoc}
+use Rattle.wire.specs.Bytes.{value, digits, valueAt, part}
+
+-- ---- reading from the last byte to the first
+
+pub value-empty : (s : List ℕ) (e : ℕ) → valueAt s e e ≡ 0
+unfolding value
+value-empty s e = rw (slice-empty e s) refl
+
+value-cons : (s : List ℕ) (i e : ℕ) → i < e → e ≤ length s → valueAt s i e ≡ getD s i 0 + 256 * valueAt s (suc i) e
+unfolding value
+value-cons s i e h k = ap value (slice-cons i e s 0 h k)
+
+pub value-before : (s : List ℕ) (i e : ℕ) → 0 < i → i ≤ e → e ≤ length s → getD s (i - 1) 0 + 256 * valueAt s i e ≡ valueAt s (i - 1) e
+value-before s i e p h k =
+    let q : suc (i - 1) ≡ i = omega arith in
+    sym (value-cons s (i - 1) e (omega arith) k ∙ ap (λ (j : ℕ). getD s (i - 1) 0 + 256 * valueAt s j e) q)
+
+pub below-with-one-more : (b r i e : ℕ) → 0 < i → i ≤ e → b < 256 → r < 256 ^ (e - i) → b + 256 * r < 256 ^ (e - (i - 1))
+below-with-one-more b r i e p h hb hr =
+    let q : e - (i - 1) ≡ suc (e - i) = omega arith in
+    rw q (rw pow-suc (omega arith))
+
+-- a number of at most w bytes is below 256 to the w
+pub below-width : (w : ℕ) {r k : ℕ} → r < 256 ^ k → k ≤ w → r < 256 ^ w
+below-width w {r} {k} h l = let m : 256 ^ k ≤ 256 ^ w = pow-le-pow-right {n = 256} (omega arith) l in omega arith
+
+-- ---- writing from the first byte to the last
+
+pub digits-next : (out rest : List ℕ) (i e x : ℕ) → i < length out → i < e →
+    take (i + 1) (set out i (x % 256)) ++ digits (e - (i + 1)) (x / 256) ++ rest ≡ take i out ++ digits (e - i) x ++ rest
+unfolding digits
+digits-next out rest i e x h k =
+    let q : e - i ≡ suc (e - (i + 1)) = omega arith in
+    rw q (rw (add-one i) (ap (λ (l : List ℕ). l ++ rest)
+    (ap (λ (l : List ℕ). l ++ digits (e - suc i) (x / 256)) (take-suc-set out i (x % 256) h)
+    ∙ append-snoc (take i out) (x % 256) (digits (e - suc i) (x / 256)))))
+
+pub digits-over : (out out₀ : List ℕ) (i e x : ℕ) → i ≡ e → drop e out ≡ drop e out₀ → out ≡ take i out ++ digits (e - i) x ++ drop e out₀
+unfolding digits
+digits-over out out₀ i e x p q =
+    let z : e - e ≡ 0 = omega arith in
+    rw (p, z, append-nil, ← q) (sym (take-append-drop e out))
+
+pub length-digits : (w v : ℕ) → length (digits w v) ≡ w
+unfolding digits
+length-digits zero v = refl
+length-digits (suc w) v = ap suc (length-digits w (v / 256))
+
+-- ---- there and back
+
+pub value-of-digits : (w v : ℕ) → v < 256 ^ w → value (digits w v) ≡ v
+unfolding value digits
+value-of-digits zero v h = omega arith
+value-of-digits (suc w) v h =
+    let h′ : v < 256 ^ w * 256 = rw pow-suc at h in
+    rw (value-of-digits w (v / 256) (omega arith)) (omega arith)
+
+-- every element is a byte
+abbrev pub Bytes : List ℕ → Type 0
+Bytes s = (i : ℕ) → getD s i 0 < 256
+
+digits-of-value : (bs : List ℕ) → Bytes bs → digits (length bs) (value bs) ≡ bs
+unfolding value digits
+digits-of-value [] h = refl
+digits-of-value (b ∷ bs) h =
+    let hb : b < 256 = h 0 in
+    let p : (b + 256 * value bs) % 256 ≡ b = omega arith in
+    let q : (b + 256 * value bs) / 256 ≡ value bs = omega arith in
+    rw (p, q, digits-of-value bs (λ i. h (suc i)))
+
+bytes-take : (n : ℕ) (s : List ℕ) → Bytes s → Bytes (take n s)
+bytes-take zero s h i = omega arith
+bytes-take (suc n) [] h i = omega arith
+bytes-take (suc n) (x ∷ s) h zero = h 0
+bytes-take (suc n) (x ∷ s) h (suc i) = bytes-take n s (λ j. h (suc j)) i
+
+bytes-drop : (n : ℕ) (s : List ℕ) → Bytes s → Bytes (drop n s)
+bytes-drop zero s h i = h i
+bytes-drop (suc n) [] h i = omega arith
+bytes-drop (suc n) (x ∷ s) h i = bytes-drop n s (λ j. h (suc j)) i
+
+pub digits-of-part : (s : List ℕ) (a e : ℕ) → Bytes s → e ≤ length s → digits (e - a) (valueAt s a e) ≡ part s a e
+digits-of-part s a e h k =
+    ap (λ (w : ℕ). digits w (valueAt s a e)) (sym (length-slice a e s k)) ∙ digits-of-value (part s a e) (bytes-drop a (take e s) (bytes-take e s h))

@@ -1,0 +1,116 @@
+use mathlib.Core.Path.{_≡_, sym, ap, _∙_}
+use mathlib.Core.List.{_++_}
+use denote.Ref.{now}
+use lib.ListN.{length, drop}
+use Rattle.wire.specs.declared.table.Shape.{Shape}
+use Rattle.wire.specs.declared.fields.Fault.{Fault}
+use Rattle.wire.specs.Outcome.{done}
+use Rattle.wire.specs.Table.{shapeOf}
+use Rattle.wire.specs.Fields.{faultOf}
+use Rattle.wire.specs.Message.{fieldsOf, typeOf}
+use Rattle.wire.specs.Writing.{imageOf}
+use Rattle.wire.proofs.Layouts.{layout-sane}
+use Rattle.wire.proofs.Cases.{write-unknown, write-bad-field, write-no-room, write-good}
+use borrow.Author.Needs.{needs}
+use Rattle.wire.proofs.encode.Statement.{statement}
+use Rattle.wire.proofs.encode.Tie as tie
+use Rattle.wire.proofs.encode.Reads as reads
+use Rattle.wire.proofs.encode.Lts as lts
+use Rattle.wire.proofs.fields.fault_of.Reads as fault-of-reads
+use Rattle.wire.proofs.put_message.Reads as put-message-reads
+use Rattle.wire.proofs.table.shape_of.Reads as shape-of-reads
+use Rattle.wire.proofs.typed.fields_of.Reads as fields-of-reads
+use Rattle.wire.proofs.typed.type_of.Reads as type-of-reads
+
+-- src/lib.rt:118:9
+shape-is : (k : tie.After-shape-of) (x : Shape) → k .shape-of .result ≡ x → shapeOf (typeOf (k .before .before .before .before .args .m)) ≡ x
+shape-is k x e = ap shapeOf (sym (k .before .before .type-of .ensures)) ∙ sym (k .shape-of .ensures) ∙ e
+
+known-is : (k : tie.After-shape) → shapeOf (typeOf (k .before .before .before .before .before .before .args .m)) ≡ Shape.Known (k .shape .given .0 .0)
+known-is k = shape-is (k .before .before) _ (k .shape .given .1)
+
+fault-is : (k : tie.After-fault-of) (x : Fault) → k .fault-of .result ≡ x → faultOf (k .before .before .shape .given .0 .0) (fieldsOf (k .before .before .before .before .before .before .before .before .args .m)) ≡ x
+fault-is k x e = ap (faultOf (k .before .before .shape .given .0 .0)) (sym (k .before .before .before .before .before .fields-of .ensures)) ∙ sym (k .fault-of .ensures) ∙ e
+
+type-of-requires : tie.Need-type-of-requires
+type-of-requires c κs = search needs
+
+-- src/lib.rt:119:9
+fields-of-requires : tie.Need-fields-of-requires
+fields-of-requires c κs = search needs
+
+-- src/lib.rt:120:9
+shape-of-requires : tie.Need-shape-of-requires
+shape-of-requires c κs = search needs
+
+-- src/lib.rt:121:22
+enum-known-shape : tie.Need-enum-known-shape
+enum-known-shape c = search needs
+
+-- src/lib.rt:122:9
+enum-told : tie.Need-enum-told
+enum-told c = search needs
+
+-- src/lib.rt:122:9
+returns : tie.Need-returns
+returns c = let a = c .before .before .before .before .before .before .args in
+    sym (write-unknown (a .m) (a .plain) (now (a .out)) (shape-is (c .before .before) _ (c .enum-told .given .1)))
+
+-- src/lib.rt:125:9
+fault-of-requires : tie.Need-fault-of-requires
+fault-of-requires c κs = search needs
+
+enum-told-2 : tie.Need-enum-told-2
+enum-told-2 c = search needs
+
+-- src/lib.rt:127:9
+enum-told-3 : tie.Need-enum-told-3
+enum-told-3 c = search needs
+
+-- src/lib.rt:127:9
+returns-2 : tie.Need-returns-2
+returns-2 c = let s = c .before .before .before .before in
+    let a = c .before .before .before .before .before .before .before .before .before .before .args in
+    sym (write-bad-field (a .m) (a .plain) (now (a .out)) (s .shape .given .0 .0) (known-is s) _ (fault-is (c .before .before) _ (c .enum-told3 .given .1)))
+
+-- src/lib.rt:130:9
+returns-3 : tie.Need-returns-3
+returns-3 c = let s = c .before .before .before .before .before in
+    let a = c .before .before .before .before .before .before .before .before .before .before .before .args in
+    sym (write-no-room (a .m) (a .plain) (now (a .out)) (s .shape .given .0 .0) (known-is s) (fault-is (c .before .before .before) _ (c .before .enum-told2 .given .1)) (c .if1 .taken))
+
+-- src/lib.rt:132:5
+put-message-requires : tie.Need-put-message-requires
+put-message-requires c κs = (layout-sane _ _ (known-is (c .before .before .before .before .before .before)), c .before .if1 .left)
+
+-- src/lib.rt:115:1
+same-length : tie.Need-same-length
+same-length c = search needs
+
+-- src/lib.rt:115:1
+returns-4 : tie.Need-returns-4
+returns-4 c = let p = c .before .before in
+    let s = c .before .before .before .before .before .before .before .before .before in
+    let l = s .shape .given .0 .0 in
+    let a = c .before .before .before .before .before .before .before .before .before .before .before .before .before .before .before .args in
+    (λ i. record { outcome = done (l .size); out = (p .put-message .ensures ∙ (λ j. imageOf l (c .before .before .before .before .before .before .before .before .before .before .before .before .before .type-of .ensures j) (c .before .before .before .before .before .before .before .before .before .before .before .before .fields-of .ensures j) (a .plain) ++ drop (l .size) (now (a .out)))) i })
+    ∙ sym (write-good (a .m) (a .plain) (now (a .out)) l (known-is s) (fault-is (c .before .before .before .before .before .before .before) _ (c .before .before .before .before .before .enum-told2 .given .1)) (c .before .before .before .before .if1 .left))
+
+pub encode-spec : {M : Type 1} → statement M
+encode-spec =
+    tie.close
+    (tie.spec
+    type-of-requires
+    fields-of-requires
+    shape-of-requires
+    enum-known-shape
+    enum-told
+    returns
+    fault-of-requires
+    enum-told-2
+    enum-told-3
+    returns-2
+    returns-3
+    put-message-requires
+    same-length
+    returns-4)

@@ -1,0 +1,102 @@
+-- The fields of a message, by its layout, and document 01's bad fields.
+use Prim.Native.Nat.{ℕ, _+_, _≤_}
+use mathlib.Core.Path.{_≡_}
+use mathlib.Core.List.{List, [], _∷_}
+use mathlib.Core.Bool.{Bool, true, false, cond, not}
+use lib.Dec.{eqb, ltb, leb}
+use Rattle.wire.specs.Bytes.{valueAt, plainRoom}
+use Rattle.wire.specs.declared.table.Layout.{Layout}
+use Rattle.wire.specs.declared.fields.Fields.{Fields}
+use Rattle.wire.specs.declared.fields.Fault.{Fault}
+use Rattle.wire.specs.declared.fields.Fault.the-variants.{Nothing, At}
+
+-- The columns follow one another, and none is wider than its field's type.
+pub record Sane (l : Layout) : Type 0 where
+  pub form₀ : 4 ≤ l .form
+  pub form₁ : l .form ≤ 8
+  pub order₀ : l .order ≡ l .form + 12
+  pub new₀ : l .order ≤ l .fresh
+  pub new₁ : l .fresh ≤ l .order + 8
+  pub id₀ : l .fresh ≤ l .id
+  pub id₁ : l .id ≤ l .fresh + 8
+  pub price₀ : l .id ≤ l .price
+  pub price₁ : l .price ≤ l .id + 4
+  pub volume₀ : l .price ≤ l .volume
+  pub volume₁ : l .volume ≤ l .price + 4
+  pub flag₀ : l .volume ≤ l .flag
+  pub flag₁ : l .flag ≤ l .volume + 4
+  pub side₀ : l .flag ≤ l .side
+  pub side₁ : l .side ≤ l .flag + 1
+  pub letter₀ : l .side ≤ l .letter
+  pub letter₁ : l .letter ≤ l .side + 1
+  pub gap₀ : l .letter ≤ l .gap
+  pub gap₁ : l .gap ≤ l .letter + 1
+  pub plain₀ : l .gap ≤ l .plain
+  pub plain₁ : l .plain ≤ l .gap + 1
+  pub pad₀ : l .plain ≤ l .pad
+  pub pad₁ : l .pad ≤ l .plain + plainRoom
+  pub size₀ : l .pad ≤ l .size
+  pub size₁ : l .size ≤ l .pad + 1
+
+-- what stands in the columns; an empty column reads 0
+abbrev pub fieldsAt : List ℕ → Layout → Fields
+fieldsAt s l = record {
+  seconds = valueAt s 4 (l .form);
+  nanos = valueAt s (l .form) (l .form + 4);
+  index = valueAt s (l .form + 4) (l .form + 8);
+  number = valueAt s (l .form + 8) (l .order);
+  order = valueAt s (l .order) (l .fresh);
+  fresh = valueAt s (l .fresh) (l .id);
+  id = valueAt s (l .id) (l .price);
+  price = valueAt s (l .price) (l .volume);
+  volume = valueAt s (l .volume) (l .flag);
+  flag = valueAt s (l .flag) (l .side);
+  side = valueAt s (l .side) (l .letter);
+  letter = valueAt s (l .letter) (l .gap);
+}
+
+-- ---- bad fields
+
+abbrev pub nanosBad : ℕ → Bool
+nanosBad n = leb 1000000000 n
+
+-- only where the type's volume must be positive
+abbrev pub volumeBad : Bool → ℕ → Bool
+volumeBad false v = false
+volumeBad true v = eqb v 0
+
+-- position or printable; one that the type lacks is 0
+abbrev pub flagBad : ℕ → Bool
+flagBad x = ltb 1 x
+
+-- only where the type has a side: `B` is 66, `S` is 83
+abbrev pub sideBad : Bool → ℕ → Bool
+sideBad false x = false
+sideBad true x = cond (eqb x 66) false (not (eqb x 83))
+
+-- the first bad one of nanoseconds, volume, flag and side, which is the order of their offsets
+unfoldable pub faultBy : Bool → Bool → Bool → Bool → Layout → Fault
+faultBy true volume flag side l = At (l .form)
+faultBy false true flag side l = At (l .volume)
+faultBy false false true side l = At (l .flag)
+faultBy false false false true l = At (l .side)
+faultBy false false false false l = Nothing
+
+unfoldable pub faultOf : Layout → Fields → Fault
+faultOf l f = faultBy (nanosBad (f .nanos)) (volumeBad (l .positive) (f .volume)) (flagBad (f .flag)) (sideBad (ltb (l .side) (l .letter)) (f .side)) l
+
+-- ---- the numbers of a message as the writer lays them out
+
+-- where they end
+abbrev pub endsOf : Layout → List ℕ
+endsOf l =
+    2 ∷ 4 ∷ l .form ∷ (l .form + 4) ∷ (l .form + 8) ∷ l .order ∷ l .fresh ∷ l .id ∷ l .price ∷ l .volume ∷ l .flag ∷ l .side ∷ l .letter ∷ l .gap ∷ l .plain ∷ []
+
+-- Msg Size, Msg Type, the fields, and zero in the gap
+abbrev pub valuesWith : ℕ → ℕ → ℕ → ℕ → ℕ → ℕ → ℕ → ℕ → ℕ → ℕ → ℕ → ℕ → ℕ → ℕ → List ℕ
+valuesWith size type seconds nanos index number order new-order id price volume flag side letter =
+    size ∷ type ∷ seconds ∷ nanos ∷ index ∷ number ∷ order ∷ new-order ∷ id ∷ price ∷ volume ∷ flag ∷ side ∷ letter ∷ 0 ∷ []
+
+abbrev pub valuesOf : ℕ → ℕ → Fields → List ℕ
+valuesOf size type f =
+    valuesWith size type (f .seconds) (f .nanos) (f .index) (f .number) (f .order) (f .fresh) (f .id) (f .price) (f .volume) (f .flag) (f .side) (f .letter)

@@ -1,0 +1,7 @@
+pub mod Outcome
+pub mod Bytes
+pub mod Table
+pub mod Fields
+pub mod Message
+pub mod Reading
+pub mod Writing

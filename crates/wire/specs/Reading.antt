@@ -1,0 +1,96 @@
+-- Reading a message: document 01, "Numbers answered" 0 to 4, in the order of its checks.
+use Prim.Native.Nat.{ℕ}
+use mathlib.Core.List.{List}
+use mathlib.Core.Bool.{Bool, true, false}
+use lib.ListN.{length, replicate}
+use lib.Dec.{eqb, ltb}
+use Rattle.wire.specs.Outcome.{Outcome, done, refused}
+use Rattle.wire.specs.Bytes.{valueAt, part, padded, plainRoom}
+use Rattle.wire.specs.Table.{shapeOf}
+use Rattle.wire.specs.Fields.{fieldsAt, faultOf}
+use Rattle.wire.specs.Message.{messageOf}
+use Rattle.wire.specs.declared.table.Layout.{Layout}
+use Rattle.wire.specs.declared.table.Shape.{Shape}
+use Rattle.wire.specs.declared.fields.Fault.{Fault}
+use Rattle.wire.specs.declared.Message.{Message}
+use Rattle.wire.specs.declared.Reach.{Reach}
+use Rattle.wire.specs.declared.Answer.{Answer}
+use Rattle.wire.specs.declared.Decoded.{Decoded}
+
+-- ---- how far a message reaches
+
+-- document 01's number and value of each case
+abbrev pub reachedAs : Reach → Outcome ℕ
+reachedAs (Reach.Size n) = done n
+reachedAs Reach.Short = refused 1
+reachedAs Reach.Small = refused 2
+
+abbrev pub msgSize : List ℕ → ℕ
+msgSize s = valueAt s 0 2
+
+abbrev pub msgType : List ℕ → ℕ
+msgType s = valueAt s 2 4
+
+-- are there fewer than four bytes, is Msg Size below 4, is it beyond the rest?
+unfoldable pub reachBy : Bool → Bool → Bool → ℕ → Outcome ℕ
+reachBy true below beyond size = refused 1
+reachBy false true beyond size = refused 2
+reachBy false false true size = refused 1
+reachBy false false false size = done size
+
+-- the Msg Size of the message at the start of s
+unfoldable pub reachOf : List ℕ → Outcome ℕ
+reachOf s = reachBy (ltb (length s) 4) (ltb (msgSize s) 4) (ltb (length s) (msgSize s)) (msgSize s)
+
+-- ---- the message
+
+-- document 01's number and value of each case
+abbrev pub answeredAs : Answer → Outcome Message
+answeredAs (Answer.Message m) = done m
+answeredAs Answer.Short = refused 1
+answeredAs Answer.BadSize = refused 2
+answeredAs Answer.BadType = refused 3
+answeredAs Answer.BadField = refused 4
+
+-- what a read hands back: the outcome, and the byte array beside it
+pub record Read : Type 0 where
+  pub outcome : Outcome Message
+  pub plain : List ℕ
+
+abbrev pub decodedAs : Decoded → Read
+decodedAs d = record { outcome = answeredAs (d .answer); plain = d .plain }
+
+-- a refused read hands back no message, and zeros
+abbrev pub refuse : ℕ → Read
+refuse n = record { outcome = refused n; plain = replicate plainRoom 0 }
+
+abbrev pub refusedRead : Answer → Decoded
+refusedRead a = record { answer = a; plain = replicate plainRoom 0 }
+
+-- the fields
+unfoldable pub readBy : Fault → List ℕ → Layout → Read
+readBy (Fault.At n) s l = refuse 4
+readBy Fault.Nothing s l = record { outcome = done (messageOf (l .kind) (fieldsAt s l)); plain = padded (part s (l .plain) (l .pad)) }
+
+unfoldable pub readBody : List ℕ → Layout → Read
+readBody s l = readBy (faultOf l (fieldsAt s l)) s l
+
+-- the type, then the size: is Msg Size the size of the type?
+unfoldable pub readSized : Bool → List ℕ → Layout → Read
+readSized false s l = refuse 2
+readSized true s l = readBody s l
+
+unfoldable pub readShape : Shape → List ℕ → ℕ → Read
+readShape Shape.Unknown s size = refuse 3
+readShape (Shape.Known l) s size = readSized (eqb size (l .size)) s l
+
+unfoldable pub readTyped : List ℕ → ℕ → Read
+readTyped s size = readShape (shapeOf (msgType s)) s size
+
+unfoldable pub readReached : Outcome ℕ → List ℕ → Read
+readReached (refused n) s = refuse n
+readReached (done size) s = readTyped s size
+
+-- the message at the start of s
+unfoldable pub readOf : List ℕ → Read
+readOf s = readReached (reachOf s) s

@@ -1,0 +1,165 @@
+-- Document 01, "Message layouts": the table, nearly as it is printed, and the layout that it gives for a type number.
+use Prim.Native.Nat.{ℕ, _+_, _≤_}
+use mathlib.Core.Path.{_≡_}
+use mathlib.Core.List.{List, [], _∷_}
+use mathlib.Core.Bool.{Bool, true, false, cond, _&&_}
+use lib.Dec.{eqb, leb, T}
+use Rattle.wire.specs.Bytes.{plainRoom}
+use Rattle.wire.specs.declared.table.Kind.{Kind}
+use Rattle.wire.specs.declared.table.Kind.the-variants.{Add, Modify, Delete, Execute, Replace, Imbalance, NonDisplayed, Cross, TradeCancel, CrossCorrection, Retail, Clear, Status}
+use Rattle.wire.specs.declared.table.Layout.{Layout}
+use Rattle.wire.specs.declared.table.Shape.{Shape}
+use Rattle.wire.specs.declared.table.Shape.the-variants.{Known, Unknown}
+
+-- The further fields. Every type has those that it has in this order.
+pub data Column : Type 0 where
+  order new-order id price volume flag side letter gap plain pad : Column
+
+abbrev pub place : Column → ℕ
+place order = 0
+place new-order = 1
+place id = 2
+place price = 3
+place volume = 4
+place flag = 5
+place side = 6
+place letter = 7
+place gap = 8
+place plain = 9
+place pad = 10
+
+-- the table's own names for them
+abbrev pub trade : Column
+trade = id
+
+abbrev pub cross : Column
+cross = id
+
+abbrev pub position : Column
+position = flag
+
+abbrev pub printable : Column
+printable = flag
+
+abbrev pub cross-type : Column
+cross-type = letter
+
+abbrev pub indicator : Column
+indicator = letter
+
+abbrev pub firm : Column
+firm = plain
+
+abbrev pub conditions : Column
+conditions = plain
+
+abbrev pub reserved : Column
+reserved = pad
+
+-- a 103 has its reserved byte before its conditions
+abbrev pub reserved-before : Column
+reserved-before = gap
+
+-- An entry of the table, offset and size
+pub record Entry : Type 0 where
+  pub column : Column
+  pub at : ℕ
+  pub size : ℕ
+
+abbrev pub field : Column → ℕ → ℕ → Entry
+field c at size = record { column = c; at = at; size = size }
+
+-- the forms, by where the nanoseconds stand
+abbrev pub formN : ℕ
+formN = 4
+
+abbrev pub formS : ℕ
+formS = 8
+
+-- is volume 0 bad?
+abbrev pub positive : Bool
+positive = true
+
+abbrev pub any : Bool
+any = false
+
+-- A row: number, kind, whether volume 0 is bad, size, form, further fields
+pub record Row : Type 0 where
+  pub number : ℕ
+  pub kind : Kind
+  pub volumes : Bool
+  pub size : ℕ
+  pub form : ℕ
+  pub entries : List Entry
+
+abbrev pub row : ℕ → Kind → Bool → ℕ → ℕ → List Entry → Row
+row n k v size form es = record { number = n; kind = k; volumes = v; size = size; form = form; entries = es }
+
+abbrev pub table : List Row
+table =
+    row 100 Add positive 39 formN (field order 16 8 ∷ field price 24 4 ∷ field volume 28 4 ∷ field side 32 1 ∷ field firm 33 5 ∷ field reserved 38 1 ∷ [])
+    ∷ row 101 Modify positive 35 formN (field order 16 8 ∷ field price 24 4 ∷ field volume 28 4 ∷ field position 32 1 ∷ field side 33 1 ∷ field reserved 34 1 ∷ [])
+    ∷ row 102 Delete any 25 formN (field order 16 8 ∷ field reserved 24 1 ∷ [])
+    ∷ row 103 Execute positive 42 formN (field order 16 8 ∷ field trade 24 4 ∷ field price 28 4 ∷ field volume 32 4 ∷ field printable 36 1 ∷ field reserved-before 37 1 ∷ field conditions 38 4 ∷ [])
+    ∷ row 104 Replace positive 42 formN (field order 16 8 ∷ field new-order 24 8 ∷ field price 32 4 ∷ field volume 36 4 ∷ field side 40 1 ∷ field reserved 41 1 ∷ [])
+    ∷ row 105 Imbalance any 73 formS (field plain 20 53 ∷ [])
+    ∷ row 110 NonDisplayed positive 33 formN (field trade 16 4 ∷ field price 20 4 ∷ field volume 24 4 ∷ field printable 28 1 ∷ field conditions 29 4 ∷ [])
+    ∷ row 111 Cross any 29 formN (field cross 16 4 ∷ field price 20 4 ∷ field volume 24 4 ∷ field cross-type 28 1 ∷ [])
+    ∷ row 112 TradeCancel any 20 formN (field trade 16 4 ∷ [])
+    ∷ row 113 CrossCorrection any 24 formN (field cross 16 4 ∷ field volume 20 4 ∷ [])
+    ∷ row 114 Retail any 17 formN (field indicator 16 1 ∷ [])
+    ∷ row 32 Clear any 20 formS []
+    ∷ row 34 Status any 46 formS (field plain 20 26 ∷ [])
+    ∷ []
+
+-- ---- the test that each row tiles its message: after the form's 12 bytes its fields stand one after the other, in the one order, up to its size
+
+abbrev pub tilesFrom : ℕ → ℕ → List Entry → ℕ → Bool
+tilesFrom p a [] size = eqb a size
+tilesFrom p a (e ∷ es) size = leb p (place (e .column)) && (eqb a (e .at) && tilesFrom (place (e .column) + 1) (a + e .size) es size)
+
+abbrev pub allTile : List Row → Bool
+allTile [] = true
+allTile (r ∷ rs) = tilesFrom 0 (r .form + 12) (r .entries) (r .size) && allTile rs
+
+pub table-tiles : T (allTile table)
+table-tiles = tt
+
+-- ---- the layout of a row: where each column starts; one that the row lacks is empty
+
+abbrev pub width : Column → List Entry → ℕ
+width c [] = 0
+width c (e ∷ es) = cond (eqb (place c) (place (e .column))) (e .size) (width c es)
+
+abbrev pub after : ℕ → List Column → List Entry → ℕ
+after a [] es = a
+after a (c ∷ cs) es = after (a + width c es) cs es
+
+abbrev pub layoutOf : Row → Layout
+layoutOf r =
+    let a = r .form + 12 in
+    record {
+      kind = r .kind;
+      positive = r .volumes;
+      size = r .size;
+      form = r .form;
+      order = a;
+      fresh = after a (order ∷ []) (r .entries);
+      id = after a (order ∷ new-order ∷ []) (r .entries);
+      price = after a (order ∷ new-order ∷ id ∷ []) (r .entries);
+      volume = after a (order ∷ new-order ∷ id ∷ price ∷ []) (r .entries);
+      flag = after a (order ∷ new-order ∷ id ∷ price ∷ volume ∷ []) (r .entries);
+      side = after a (order ∷ new-order ∷ id ∷ price ∷ volume ∷ flag ∷ []) (r .entries);
+      letter = after a (order ∷ new-order ∷ id ∷ price ∷ volume ∷ flag ∷ side ∷ []) (r .entries);
+      gap = after a (order ∷ new-order ∷ id ∷ price ∷ volume ∷ flag ∷ side ∷ letter ∷ []) (r .entries);
+      plain = after a (order ∷ new-order ∷ id ∷ price ∷ volume ∷ flag ∷ side ∷ letter ∷ gap ∷ []) (r .entries);
+      pad = after a (order ∷ new-order ∷ id ∷ price ∷ volume ∷ flag ∷ side ∷ letter ∷ gap ∷ plain ∷ []) (r .entries);
+    }
+
+abbrev pub find : ℕ → List Row → Shape
+find n [] = Unknown
+find n (r ∷ rs) = cond (eqb n (r .number)) (Known (layoutOf r)) (find n rs)
+
+-- the layout of a type number, or unknown
+unfoldable pub shapeOf : ℕ → Shape
+shapeOf n = find n table

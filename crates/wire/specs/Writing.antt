@@ -1,0 +1,61 @@
+-- Writing a message: document 01, "A written message checks 3, 4, then 15".
+use Prim.Native.Nat.{ℕ, _-_}
+use mathlib.Core.List.{List, _++_}
+use mathlib.Core.Bool.{Bool, true, false}
+use lib.ListN.{length, take, drop}
+use lib.Dec.{ltb}
+use Rattle.wire.specs.Outcome.{Outcome, done, refused}
+use Rattle.wire.specs.Bytes.{digits, bytesOf}
+use Rattle.wire.specs.Table.{shapeOf}
+use Rattle.wire.specs.Fields.{faultOf, endsOf, valuesOf}
+use Rattle.wire.specs.Message.{fieldsOf, typeOf}
+use Rattle.wire.specs.declared.table.Layout.{Layout}
+use Rattle.wire.specs.declared.table.Shape.{Shape}
+use Rattle.wire.specs.declared.fields.Fields.{Fields}
+use Rattle.wire.specs.declared.fields.Fault.{Fault}
+use Rattle.wire.specs.declared.Message.{Message}
+use Rattle.wire.specs.declared.Written.{Written}
+
+-- document 01's number and value of each case
+abbrev pub wroteAs : Written → Outcome ℕ
+wroteAs (Written.Bytes n) = done n
+wroteAs Written.BadType = refused 3
+wroteAs Written.BadField = refused 4
+wroteAs Written.NoRoom = refused 15
+
+-- how many bytes were written
+abbrev pub countOf : Outcome ℕ → ℕ
+countOf (done n) = n
+countOf (refused k) = 0
+
+-- what a write answers, and what it leaves in the buffer
+pub record Write : Type 0 where
+  pub outcome : Outcome ℕ
+  pub out : List ℕ
+
+abbrev pub wrote : Written → List ℕ → Write
+wrote w out = record { outcome = wroteAs w; out = out }
+
+abbrev pub refuse : ℕ → List ℕ → Write
+refuse n out = record { outcome = refused n; out = out }
+
+-- the bytes of a message: its numbers, its byte array at the type's own width, and zero in the reserved byte at the end
+unfoldable pub imageOf : Layout → ℕ → Fields → List ℕ → List ℕ
+imageOf l type f plain = bytesOf 0 (endsOf l) (valuesOf (l .size) type f) ++ take (l .pad - l .plain) plain ++ digits (l .size - l .pad) 0
+
+-- is the buffer too short?
+unfoldable pub writeSized : Bool → Layout → Message → List ℕ → List ℕ → Write
+writeSized true l m plain out = refuse 15 out
+writeSized false l m plain out = record { outcome = done (l .size); out = imageOf l (typeOf m) (fieldsOf m) plain ++ drop (l .size) out }
+
+unfoldable pub writeBy : Fault → Layout → Message → List ℕ → List ℕ → Write
+writeBy (Fault.At n) l m plain out = refuse 4 out
+writeBy Fault.Nothing l m plain out = writeSized (ltb (length out) (l .size)) l m plain out
+
+unfoldable pub writeShape : Shape → Message → List ℕ → List ℕ → Write
+writeShape Shape.Unknown m plain out = refuse 3 out
+writeShape (Shape.Known l) m plain out = writeBy (faultOf l (fieldsOf m)) l m plain out
+
+-- the message at the start of out
+unfoldable pub writeOf : Message → List ℕ → List ℕ → Write
+writeOf m plain out = writeShape (shapeOf (typeOf m)) m plain out

@@ -1,0 +1,105 @@
+// Numbers and byte arrays in a slice, at any width.
+use crate::PLAIN;
+ghost use mathlib.Core.Path.{_≡_};
+ghost use Prim.Native.Nat.{_+_, _-_, _^_, _≤_, _<_};
+ghost use lib.ListN.{length, take};
+ghost use Rattle.wire.specs.Bytes.{valueAt, digits, splice, part, padded, plainRoom, Rising, laid};
+
+fn wide(x: u8) -> u64
+    ensures { λ r. ⌜ r ≡ x ⌝ }
+{
+    x as u64
+}
+
+// The number of the bytes from a up to e, least significant first.
+pub(crate) fn get(s: &[u8], a: usize, e: usize) -> u64
+    requires { ⌜ (a ≤ e) × (e ≤ a + 8) × (e ≤ length (now s)) ⌝ }
+    ensures { λ r. ⌜ (r ≡ valueAt (now (s .entry)) a e) × (r < 256 ^ (e - a)) ⌝ }
+{
+    let mut r: u64 = 0;
+    let mut i = e;
+    while a < i {
+        i -= 1;
+        r = wide(s[i]) + 256 * r;
+    }
+    r
+}
+
+// The same for at most four, two and one bytes.
+pub(crate) fn get32(s: &[u8], a: usize, e: usize) -> u32
+    requires { ⌜ (a ≤ e) × (e ≤ a + 4) × (e ≤ length (now s)) ⌝ }
+    ensures { λ r. ⌜ r ≡ valueAt (now (s .entry)) a e ⌝ }
+{
+    get(s, a, e) as u32
+}
+
+pub(crate) fn get16(s: &[u8], a: usize, e: usize) -> u16
+    requires { ⌜ (a ≤ e) × (e ≤ a + 2) × (e ≤ length (now s)) ⌝ }
+    ensures { λ r. ⌜ r ≡ valueAt (now (s .entry)) a e ⌝ }
+{
+    get(s, a, e) as u16
+}
+
+pub(crate) fn get8(s: &[u8], a: usize, e: usize) -> u8
+    requires { ⌜ (a ≤ e) × (e ≤ a + 1) × (e ≤ length (now s)) ⌝ }
+    ensures { λ r. ⌜ r ≡ valueAt (now (s .entry)) a e ⌝ }
+{
+    get(s, a, e) as u8
+}
+
+// The bytes from a up to e, and zeros after them.
+pub(crate) fn plain_at(s: &[u8], a: usize, e: usize) -> [u8; PLAIN]
+    requires { ⌜ (a ≤ e) × (e ≤ a + plainRoom) × (e ≤ length (now s)) ⌝ }
+    ensures { λ r. ⌜ r ≡ padded (part (now (s .entry)) a e) ⌝ }
+{
+    let n = e - a;
+    let mut r = [0u8; PLAIN];
+    let mut i = 0;
+    while i < n {
+        r[i] = s[a + i];
+        i += 1;
+    }
+    r
+}
+
+// Writes the number v over the bytes from a up to e.
+pub(crate) fn put_value(out: &mut [u8], a: usize, e: usize, v: u64)
+    requires { ⌜ (a ≤ e) × (e ≤ length (now out)) ⌝ }
+    ensures { λ _. ⌜ now (out .exit) ≡ splice (now (out .entry)) a e (digits (e - a) v) ⌝ }
+{
+    let mut x = v;
+    let mut i = a;
+    while i < e {
+        out[i] = (x % 256) as u8;
+        x = x / 256;
+        i += 1;
+    }
+}
+
+// Writes numbers one after the other: each starts where the one before it ended, the first at 0.
+pub(crate) fn put_values(out: &mut [u8], ends: [usize; 15], v: [u64; 15])
+    requires { ⌜ Rising 0 ends (length (now out)) ⌝ }
+    ensures { λ _. ⌜ now (out .exit) ≡ laid 0 ends v (now (out .entry)) ⌝ }
+{
+    let mut a = 0;
+    let mut i = 0;
+    while i < 15 {
+        let e = ends[i];
+        put_value(out, a, e, v[i]);
+        a = e;
+        i += 1;
+    }
+}
+
+// Writes the first bytes of a byte array over the bytes from a up to e.
+pub(crate) fn put_plain(out: &mut [u8], a: usize, e: usize, plain: [u8; PLAIN])
+    requires { ⌜ (a ≤ e) × (e ≤ a + plainRoom) × (e ≤ length (now out)) ⌝ }
+    ensures { λ _. ⌜ now (out .exit) ≡ splice (now (out .entry)) a e (take (e - a) plain) ⌝ }
+{
+    let n = e - a;
+    let mut i = 0;
+    while i < n {
+        out[a + i] = plain[i];
+        i += 1;
+    }
+}
