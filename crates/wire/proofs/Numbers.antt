@@ -8,6 +8,7 @@ use native.Mathlib.Omega.{arith}
 use lib.ListN.{length, take, drop, set, getD, take-append-drop}
 use lib.Seq.{slice-cons, slice-empty, length-slice, take-suc-set, append-snoc}
 use Rattle.wire.specs.Bytes.{value, digits, valueAt, part}
+use Rattle.wire.specs.RoundTrip.{Bytes}
 
 -- ---- reading from the last byte to the first
 
@@ -63,10 +64,6 @@ value-of-digits zero v h = omega arith
 value-of-digits (suc w) v h =
     let h′ : v < 256 ^ w * 256 = rw pow-suc at h in
     rw (value-of-digits w (v / 256) (omega arith)) (omega arith)
-
--- every element is a byte
-abbrev pub Bytes : List ℕ → Type 0
-Bytes s = (i : ℕ) → getD s i 0 < 256
 
 digits-of-value : (bs : List ℕ) → Bytes bs → digits (length bs) (value bs) ≡ bs
 unfolding value digits

@@ -5,3 +5,4 @@ pub mod Fields
 pub mod Message
 pub mod Reading
 pub mod Writing
+pub mod RoundTrip

@@ -1,0 +1,158 @@
+-- Demand 2's round trips: reading what was written gives the same message, and writing what was read gives the same bytes.
+use mathlib.Core.Path.{_≡_, refl, sym, ap, _∙_, subst}
+use mathlib.Core.List.{List, _++_}
+use mathlib.Core.Bool.{Bool, true, false}
+use Prim.Native.Nat.{ℕ, _-_, _≤_}
+use native.Mathlib.Omega.{arith}
+use lib.ListN.{length, take, drop}
+use lib.Dec.{eqb, ltb}
+use borrow.Author.Tests.{eqb-true, ltb-false}
+use Rattle.wire.specs.declared.table.Layout.{Layout}
+use Rattle.wire.specs.declared.table.Shape.{Shape}
+use Rattle.wire.specs.declared.fields.Fields.{Fields}
+use Rattle.wire.specs.declared.fields.Fault.{Fault}
+use Rattle.wire.specs.declared.Message.{Message}
+use Rattle.wire.specs.Outcome.{Outcome, done, refused}
+use Rattle.wire.specs.Bytes.{valueAt, padded, part, plainRoom}
+use Rattle.wire.specs.Table.{shapeOf, table}
+use Rattle.wire.specs.Fields.{fieldsAt, faultOf, endsOf, valuesOf}
+use Rattle.wire.specs.Message.{messageOf, fieldsOf, typeOf}
+use Rattle.wire.specs.Reading.{msgSize, msgType, reachOf, Read, readBy, readBody, readSized, readShape, readTyped, readReached, readOf}
+use Rattle.wire.specs.Writing.{Write, imageOf, writeSized, writeBy, writeShape, writeOf}
+use Rattle.wire.specs.RoundTrip.{InRange, Bytes, arrayWidth, sameMessage, ReadsBack, ReservedZero, WritesBack}
+use Rattle.wire.proofs.Numbers.{value-empty}
+use Rattle.wire.proofs.Layouts.{AllRows, by-rows, layout-sane}
+use Rattle.wire.proofs.Cases.{Reached, reached, reach-size, read-reached, read-size, read-good, write-good}
+use Rattle.wire.proofs.Rows.{Fitting}
+use Rattle.wire.proofs.Images.{image-there, image-array, image-size, image-type, image-fields, image-of-read}
+
+-- ---- each message and its layout
+
+-- the layout of a known shape
+abbrev layoutIn : Shape → Layout → Layout
+layoutIn Shape.Unknown d = d
+layoutIn (Shape.Known l) d = l
+
+at-row : (P : Layout → Type 0) (n : ℕ) (l : Layout) → shapeOf n ≡ Shape.Known l → P (layoutIn (shapeOf n) l) → P l
+at-row P n l e p = subst P (ap (λ (x : Shape). layoutIn x l) e) p
+
+-- its fields fit the layout of its type, and make the message again
+record Suits (m : Message) (l : Layout) : Type 0 where
+  pub fit : Fitting 0 (endsOf l) (valuesOf (l .size) (typeOf m) (fieldsOf m))
+  pub again : messageOf (l .kind) (fieldsOf m) ≡ m
+
+suits : (m : Message) (l : Layout) → shapeOf (typeOf m) ≡ Shape.Known l → InRange (fieldsOf m) → Suits m l
+unfolding shapeOf
+suits (Message.Add h o p v s) l e w = at-row (Suits (Message.Add h o p v s)) 100 l e (record { fit = omega arith; again = refl })
+suits (Message.Modify h o p v t s) l e w = at-row (Suits (Message.Modify h o p v t s)) 101 l e (record { fit = omega arith; again = refl })
+suits (Message.Delete h o) l e w = at-row (Suits (Message.Delete h o)) 102 l e (record { fit = omega arith; again = refl })
+suits (Message.Execute h o t p v s) l e w = at-row (Suits (Message.Execute h o t p v s)) 103 l e (record { fit = omega arith; again = refl })
+suits (Message.Replace h o t p v s) l e w = at-row (Suits (Message.Replace h o t p v s)) 104 l e (record { fit = omega arith; again = refl })
+suits (Message.Imbalance h s) l e w = at-row (Suits (Message.Imbalance h s)) 105 l e (record { fit = omega arith; again = refl })
+suits (Message.NonDisplayed h t p v s) l e w = at-row (Suits (Message.NonDisplayed h t p v s)) 110 l e (record { fit = omega arith; again = refl })
+suits (Message.Cross h c p v s) l e w = at-row (Suits (Message.Cross h c p v s)) 111 l e (record { fit = omega arith; again = refl })
+suits (Message.TradeCancel h t) l e w = at-row (Suits (Message.TradeCancel h t)) 112 l e (record { fit = omega arith; again = refl })
+suits (Message.CrossCorrection h c v) l e w = at-row (Suits (Message.CrossCorrection h c v)) 113 l e (record { fit = omega arith; again = refl })
+suits (Message.Retail h c) l e w = at-row (Suits (Message.Retail h c)) 114 l e (record { fit = omega arith; again = refl })
+suits (Message.Clear h s) l e w = at-row (Suits (Message.Clear h s)) 32 l e (record { fit = omega arith; again = refl })
+suits (Message.Status h s) l e w = at-row (Suits (Message.Status h s)) 34 l e (record { fit = omega arith; again = refl })
+
+-- what was read of a type is a message of that type with those fields
+record Keeps (n : ℕ) (l : Layout) : Type 0 where
+  pub type : (s : List ℕ) → typeOf (messageOf (l .kind) (fieldsAt s l)) ≡ n
+  pub fields : (s : List ℕ) → fieldsOf (messageOf (l .kind) (fieldsAt s l)) ≡ fieldsAt s l
+
+kept-row : AllRows Keeps table
+kept-row = (record { type = λ s. refl; fields = λ s. simp value-empty }, (record { type = λ s. refl; fields = λ s. simp value-empty }, (record { type = λ s. refl; fields = λ s. simp value-empty }, (record { type = λ s. refl; fields = λ s. simp value-empty }, (record { type = λ s. refl; fields = λ s. simp value-empty }, (record { type = λ s. refl; fields = λ s. simp value-empty }, (record { type = λ s. refl; fields = λ s. simp value-empty }, (record { type = λ s. refl; fields = λ s. simp value-empty }, (record { type = λ s. refl; fields = λ s. simp value-empty }, (record { type = λ s. refl; fields = λ s. simp value-empty }, (record { type = λ s. refl; fields = λ s. simp value-empty }, (record { type = λ s. refl; fields = λ s. simp value-empty }, (record { type = λ s. refl; fields = λ s. simp value-empty }, tt)))))))))))))
+
+keeps : (n : ℕ) (l : Layout) → shapeOf n ≡ Shape.Known l → Keeps n l
+keeps = by-rows Keeps kept-row
+
+-- ---- reading what was written
+
+module _ (m : Message) (plain out : List ℕ) (long : length plain ≡ plainRoom) (w : InRange (fieldsOf m)) where
+  module _ (l : Layout) (known : shapeOf (typeOf m) ≡ Shape.Known l) (good : faultOf l (fieldsOf m) ≡ Fault.Nothing) where
+    read-image : (rest : List ℕ) → readOf (imageOf l (typeOf m) (fieldsOf m) plain ++ rest) ≡ record { outcome = done m; plain = padded (take (l .pad - l .plain) plain) }
+    read-image rest =
+        let f = fieldsOf m in
+        let sane = layout-sane (typeOf m) l known in
+        let u = suits m l known w in
+        let s : List ℕ = imageOf l (typeOf m) f plain ++ rest in
+        let size : msgSize s ≡ l .size = image-size l sane (typeOf m) f plain rest long (u .fit) in
+        let type : msgType s ≡ typeOf m = image-type l sane (typeOf m) f plain rest long (u .fit) in
+        let fields : fieldsAt s l ≡ f = image-fields l sane (typeOf m) f plain rest long (u .fit) in
+        let there : l .size ≤ length s = image-there l sane (typeOf m) f plain rest long in
+        read-reached s (msgSize s) (reach-size s (omega arith) (omega arith) (omega arith))
+        ∙ read-size s (msgSize s) l (ap shapeOf type ∙ known) size
+        ∙ read-good s l (ap (faultOf l) fields ∙ good)
+        ∙ (λ i. record { outcome = done ((ap (messageOf (l .kind)) fields ∙ u .again) i); plain = padded (image-array l sane (typeOf m) f plain rest long i) })
+
+  -- by the cases of writing: only the last one is done
+  by-room : (n : ℕ) (l : Layout) → shapeOf (typeOf m) ≡ Shape.Known l → faultOf l (fieldsOf m) ≡ Fault.Nothing → (b : Bool) →
+      writeSized b l m plain out .outcome ≡ done n → readOf (writeSized b l m plain out .out) ≡ sameMessage m plain
+  unfolding writeSized
+  by-room n l known good true e = let z : _≡_ {A = ℕ} 0 1 = cc in absurd (omega arith)
+  by-room n l known good false e =
+      read-image l known good (drop (l .size) out) ∙ ap (λ (x : Shape). record { outcome = done m; plain = padded (take (arrayWidth x) plain) }) (sym known)
+
+  by-fault : (n : ℕ) (l : Layout) → shapeOf (typeOf m) ≡ Shape.Known l → (x : Fault) → faultOf l (fieldsOf m) ≡ x →
+      writeBy x l m plain out .outcome ≡ done n → readOf (writeBy x l m plain out .out) ≡ sameMessage m plain
+  unfolding writeBy
+  by-fault n l known (Fault.At k) q e = let z : _≡_ {A = ℕ} 0 1 = cc in absurd (omega arith)
+  by-fault n l known Fault.Nothing q e = by-room n l known q (ltb (length out) (l .size)) e
+
+  by-shape : (n : ℕ) (x : Shape) → shapeOf (typeOf m) ≡ x → writeShape x m plain out .outcome ≡ done n → readOf (writeShape x m plain out .out) ≡ sameMessage m plain
+  unfolding writeShape
+  by-shape n Shape.Unknown q e = let z : _≡_ {A = ℕ} 0 1 = cc in absurd (omega arith)
+  by-shape n (Shape.Known l) q e = by-fault n l q (faultOf l (fieldsOf m)) refl e
+
+  pub read-what-was-written : ReadsBack m plain (writeOf m plain out)
+  unfolding ReadsBack writeOf
+  read-what-was-written n e = by-shape n (shapeOf (typeOf m)) refl e
+
+-- ---- writing what was read
+
+module _ (s : List ℕ) (bytes : Bytes s) (m : Message) (out : List ℕ) where
+  abbrev WroteAll : Read → Type 0
+  WroteAll r = writeOf m (r .plain) out ≡ record { outcome = done (msgSize s); out = take (msgSize s) s ++ drop (msgSize s) out }
+
+  module _ (l : Layout) (known : shapeOf (msgType s) ≡ Shape.Known l) (size : msgSize s ≡ l .size) (there : msgSize s ≤ length s) (room : msgSize s ≤ length out) where
+    back-fields : (x : Fault) → faultOf l (fieldsAt s l) ≡ x → readBy x s l .outcome ≡ done m → ReservedZero (Shape.Known l) s → WroteAll (readBy x s l)
+    unfolding readBy
+    back-fields (Fault.At k) q e zero = let z : _≡_ {A = ℕ} 0 1 = cc in absurd (omega arith)
+    back-fields Fault.Nothing q e zero =
+        let kept = keeps (msgType s) l known in
+        let is : messageOf (l .kind) (fieldsAt s l) ≡ m = cc in
+        let type : typeOf m ≡ msgType s = ap typeOf (sym is) ∙ kept .type s in
+        let fields : fieldsOf m ≡ fieldsAt s l = ap fieldsOf (sym is) ∙ kept .fields s in
+        let plain = padded (part s (l .plain) (l .pad)) in
+        let image = image-of-read s l bytes (layout-sane (msgType s) l known) size (omega arith) (zero .0) (zero .1) in
+        write-good m plain out l (ap shapeOf type ∙ known) (ap (faultOf l) fields ∙ q) (omega arith)
+        ∙ (λ i. record { outcome = done (sym size i); out = ((λ j. imageOf l (type j) (fields j) plain) ∙ image) i ++ drop (l .size) out })
+        ∙ (λ i. record { outcome = done (msgSize s); out = take (sym size i) s ++ drop (sym size i) out })
+
+    back-size : (b : Bool) → readSized b s l .outcome ≡ done m → ReservedZero (Shape.Known l) s → WroteAll (readSized b s l)
+    unfolding readSized readBody
+    back-size false e zero = let z : _≡_ {A = ℕ} 0 1 = cc in absurd (omega arith)
+    back-size true e zero = back-fields (faultOf l (fieldsAt s l)) refl e zero
+
+  sized : (l : Layout) (n : ℕ) (b : Bool) → eqb n (l .size) ≡ b → readSized b s l .outcome ≡ done m → n ≡ l .size
+  unfolding readSized
+  sized l n true q e = eqb-true n (l .size) q
+  sized l n false q e = let z : _≡_ {A = ℕ} 0 1 = cc in absurd (omega arith)
+
+  back-shape : (n : ℕ) → Reached s n → (x : Shape) → shapeOf (msgType s) ≡ x → readShape x s n .outcome ≡ done m → ReservedZero x s → msgSize s ≤ length out → WroteAll (readShape x s n)
+  unfolding readShape
+  back-shape n r Shape.Unknown q e zero room = let z : _≡_ {A = ℕ} 0 1 = cc in absurd (omega arith)
+  back-shape n r (Shape.Known l) q e zero room =
+      let same : n ≡ l .size = sized l n (eqb n (l .size)) refl e in
+      back-size l q (r .size ∙ same) (omega (arith, r .size, r .there)) room (eqb n (l .size)) e zero
+
+  back-reached : (x : Outcome ℕ) → reachOf s ≡ x → readReached x s .outcome ≡ done m → ReservedZero (shapeOf (msgType s)) s → msgSize s ≤ length out → WroteAll (readReached x s)
+  unfolding readReached readTyped
+  back-reached (refused n) q e zero room = let z : _≡_ {A = ℕ} 0 1 = cc in absurd (omega arith)
+  back-reached (done n) q e zero room = back-shape n (reached s n q) (shapeOf (msgType s)) refl e zero room
+
+pub write-what-was-read : (s : List ℕ) → Bytes s → WritesBack s (readOf s)
+unfolding WritesBack readOf
+write-what-was-read s bytes m e zero out room = back-reached s bytes m out (reachOf s) refl e zero room
