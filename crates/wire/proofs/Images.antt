@@ -45,8 +45,16 @@ module _ (l : Layout) (sane : Sane l) (type : ℕ) (f : Fields) (plain rest : Li
 
   pub image-there : l .size ≤ length stream
   image-there =
-      omega (arith, ap length in-three, length-append (numbers ++ array) (last ++ rest), length-append numbers array, length-append last rest, length-numbers, length-array,
-        length-digits (l .size - l .pad) 0)
+      omega (
+        arith,
+        ap length in-three,
+        length-append (numbers ++ array) (last ++ rest),
+        length-append numbers array,
+        length-append last rest,
+        length-numbers,
+        length-array,
+        length-digits (l .size - l .pad) 0,
+      )
 
   pub image-array : part stream (l .plain) (l .pad) ≡ array
   image-array = rw in-three (part-between numbers array (last ++ rest) (l .plain) (l .pad) length-numbers (omega arith) length-array)
@@ -56,7 +64,7 @@ module _ (l : Layout) (sane : Sane l) (type : ℕ) (f : Fields) (plain rest : Li
     nth i =
         ap (λ (v : List ℕ). getD v i 0)
         (ap (valuesAt 0 (endsOf l)) in-two
-          ∙ values-of-bytes (endsOf l) (valuesOf (l .size) type f) (l .size) 0 [] (array ++ (last ++ rest)) refl refl (ends-rise l sane (l .size) (omega arith)) fit)
+        ∙ values-of-bytes (endsOf l) (valuesOf (l .size) type f) (l .size) 0 [] (array ++ (last ++ rest)) refl refl (ends-rise l sane (l .size) (omega arith)) fit)
 
     pub image-size : msgSize stream ≡ l .size
     image-size = nth 0
@@ -66,8 +74,19 @@ module _ (l : Layout) (sane : Sane l) (type : ℕ) (f : Fields) (plain rest : Li
 
     pub image-fields : fieldsAt stream l ≡ f
     image-fields = λ i. record {
-        seconds = nth 2 i; nanos = nth 3 i; index = nth 4 i; number = nth 5 i; order = nth 6 i; fresh = nth 7 i;
-        id = nth 8 i; price = nth 9 i; volume = nth 10 i; flag = nth 11 i; side = nth 12 i; letter = nth 13 i }
+      seconds = nth 2 i;
+      nanos = nth 3 i;
+      index = nth 4 i;
+      number = nth 5 i;
+      order = nth 6 i;
+      fresh = nth 7 i;
+      id = nth 8 i;
+      price = nth 9 i;
+      volume = nth 10 i;
+      flag = nth 11 i;
+      side = nth 12 i;
+      letter = nth 13 i;
+    }
 
 -- ---- the fields that were read from s, written again
 module _ (s : List ℕ) (l : Layout) (bytes : Bytes s) (sane : Sane l) (size : msgSize s ≡ l .size) (there : l .size ≤ length s)
@@ -77,11 +96,11 @@ module _ (s : List ℕ) (l : Layout) (bytes : Bytes s) (sane : Sane l) (size : m
   image-of-read =
       let same : valuesOf (l .size) (msgType s) (fieldsAt s l) ≡ valuesAt 0 (endsOf l) s = rw (← size, ← gap-zero) in
       let b : bytesOf 0 (endsOf l) (valuesOf (l .size) (msgType s) (fieldsAt s l)) ≡ part s 0 (l .plain) =
-            ap (bytesOf 0 (endsOf l)) same ∙ bytes-of-values s (endsOf l) 0 bytes (omega arith) (ends-rise l sane (length s) there) in
+      ap (bytesOf 0 (endsOf l)) same ∙ bytes-of-values s (endsOf l) 0 bytes (omega arith) (ends-rise l sane (length s) there) in
       let d : take (l .pad - l .plain) (padded (part s (l .plain) (l .pad))) ≡ part s (l .plain) (l .pad) =
-            take-at (part s (l .plain) (l .pad)) _ (l .pad - l .plain) (length-slice (l .plain) (l .pad) s (omega arith)) in
+      take-at (part s (l .plain) (l .pad)) _ (l .pad - l .plain) (length-slice (l .plain) (l .pad) s (omega arith)) in
       let z : digits (l .size - l .pad) 0 ≡ part s (l .pad) (l .size) =
-            ap (digits (l .size - l .pad)) (sym pad-zero) ∙ digits-of-part s (l .pad) (l .size) bytes there in
+      ap (digits (l .size - l .pad)) (sym pad-zero) ∙ digits-of-part s (l .pad) (l .size) bytes there in
       (λ i. b i ++ d i ++ z i)
       ∙ ap (λ (x : List ℕ). x ++ part s (l .pad) (l .size)) (parts-join s 0 (l .plain) (l .pad) (omega arith) (omega arith) (omega arith))
       ∙ parts-join s 0 (l .pad) (l .size) (omega arith) (omega arith) there

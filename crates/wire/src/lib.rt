@@ -30,6 +30,7 @@ ghost use lib.ListN.{length, drop};
 ghost use Rattle.wire.specs.Outcome.{numberOf};
 ghost use Rattle.wire.specs.Fields.{Sane};
 ghost use Rattle.wire.specs.Reading.{reachedAs, reachOf, answeredAs, decodedAs, readOf, readTyped, readBody, refusedRead};
+ghost use Rattle.wire.specs.RoundTrip.{ReadsBack, WritesBack};
 ghost use Rattle.wire.specs.Writing.{imageOf, wroteAs, countOf, wrote, writeOf};
 
 // The longest byte array of a message: the plain bytes of a 105.
@@ -162,7 +163,8 @@ pub fn reach_at(s: &[u8], at: usize) -> Reach
 
 // Reads the message at the start of s.
 pub fn decode(s: &[u8]) -> Decoded
-    ensures { λ r. ⌜ decodedAs r ≡ readOf (now (s .entry)) ⌝ }
+    ensures reads { λ r. ⌜ decodedAs r ≡ readOf (now (s .entry)) ⌝ }
+    ensures writes_back { λ r. ⌜ WritesBack (now (s .entry)) (decodedAs r) ⌝ }
 {
     let found = first_reach(s);
     match found {
@@ -174,7 +176,8 @@ pub fn decode(s: &[u8]) -> Decoded
 
 // Writes a message with its byte array to the start of out. Refused, it leaves every byte of out.
 pub fn encode(m: Message, plain: [u8; PLAIN], out: &mut [u8]) -> Written
-    ensures { λ r. ⌜ wrote r (now (out .exit)) ≡ writeOf m plain (now (out .entry)) ⌝ }
+    ensures writes { λ r. ⌜ wrote r (now (out .exit)) ≡ writeOf m plain (now (out .entry)) ⌝ }
+    ensures reads_back { λ r. ⌜ ReadsBack m plain (wrote r (now (out .exit))) ⌝ }
 {
     let number = type_of(m);
     let f = fields_of(m);

@@ -4,6 +4,7 @@ use crate::Message;
 use crate::fields::Fields;
 use crate::table::Kind;
 ghost use mathlib.Core.Path.{_≡_};
+ghost use Rattle.wire.specs.RoundTrip.{InRange};
 ghost use Rattle.wire.specs.Message.{messageOf, fieldsWith, fieldsOf, typeOf};
 
 // The message of a type with these fields.
@@ -92,7 +93,7 @@ pub(crate) fn message_of(k: Kind, f: Fields) -> Message
 
 // The fields of a message; those that its type lacks are 0.
 pub(crate) fn fields_of(m: Message) -> Fields
-    ensures { λ r. ⌜ r ≡ fieldsOf m ⌝ }
+    ensures { λ r. ⌜ (r ≡ fieldsOf m) × InRange (fieldsOf m) ⌝ }
 {
     match m {
         Message::Add {
@@ -166,7 +167,7 @@ fn fields_with(
     side: u8,
     letter: u8,
 ) -> Fields
-    ensures { λ r. ⌜ r ≡ fieldsWith head seconds order fresh id price volume flag side letter ⌝ }
+    ensures { λ r. ⌜ (r ≡ fieldsWith head seconds order fresh id price volume flag side letter) × InRange (fieldsWith head seconds order fresh id price volume flag side letter) ⌝ }
 {
     Fields {
         seconds,

@@ -1,8 +1,11 @@
-use mathlib.Core.Path.{_≡_, sym, ap, _∙_}
+use mathlib.Core.Path.{_≡_, sym, ap, _∙_, subst}
+use native.Mathlib.Omega.{arith}
 use denote.Ref.{now}
 use Rattle.wire.specs.declared.Reach.{Reach}
 use Rattle.wire.specs.Outcome.{done, refused}
-use Rattle.wire.specs.Reading.{reachedAs, reachOf, decodedAs}
+use Rattle.wire.specs.Reading.{reachedAs, reachOf, decodedAs, Read, readOf}
+use Rattle.wire.specs.RoundTrip.{WritesBack}
+use Rattle.wire.proofs.RoundTrip.{write-what-was-read}
 use Rattle.wire.proofs.Cases.{Reached, reached, read-unreached, read-reached}
 use borrow.Author.Needs.{needs}
 use Rattle.wire.proofs.decode.Statement.{statement}
@@ -16,6 +19,12 @@ use Rattle.wire.proofs.refused.Reads as refused-reads
 -- src/lib.rt:106:9
 reach-is : (k : tie.After-first-reach) (x : Reach) → k .first-reach .result ≡ x → reachOf (now (k .before .before .args .s)) ≡ reachedAs x
 reach-is k x e = sym (k .first-reach .ensures) ∙ ap reachedAs e
+
+-- what is read writes back, since the elements of a slice are bytes
+both : (k : tie.After-first-reach) {r : Read} → r ≡ readOf (now (k .before .before .args .s)) → (r ≡ readOf (now (k .before .before .args .s))) × WritesBack (now (k .before .before .args .s)) r
+both k e =
+    let s = now (k .before .before .args .s) in
+    (e, subst (WritesBack s) (sym e) (write-what-was-read s (λ i. omega (arith, k .before .shared-slice-known .given i))))
 
 first-reach-requires : tie.Need-first-reach-requires
 first-reach-requires c κs = search needs
@@ -46,15 +55,15 @@ decode-typed-requires c κs = let r = reached (now (c .before .before .before .b
 
 -- src/lib.rt:103:1
 returns : tie.Need-returns
-returns c = ap decodedAs (c .refused .ensures) ∙ sym (read-unreached (now (c .before .before .before .before .before .args .s)) 1 (reach-is (c .before .before .before) _ (c .before .enum-told .given .1)))
+returns c = both (c .before .before .before) (ap decodedAs (c .refused .ensures) ∙ sym (read-unreached (now (c .before .before .before .before .before .args .s)) 1 (reach-is (c .before .before .before) _ (c .before .enum-told .given .1))))
 
 -- src/lib.rt:103:1
 returns-2 : tie.Need-returns-2
-returns-2 c = ap decodedAs (c .refused2 .ensures) ∙ sym (read-unreached (now (c .before .before .before .before .before .args .s)) 2 (reach-is (c .before .before .before) _ (c .before .enum-told2 .given .1)))
+returns-2 c = both (c .before .before .before) (ap decodedAs (c .refused2 .ensures) ∙ sym (read-unreached (now (c .before .before .before .before .before .args .s)) 2 (reach-is (c .before .before .before) _ (c .before .enum-told2 .given .1))))
 
 -- src/lib.rt:103:1
 returns-3 : tie.Need-returns-3
-returns-3 c = c .decode-typed .ensures ∙ sym (read-reached (now (c .before .before .before .before .before .before .args .s)) (c .before .before .found .given .0 .0) (reach-is (c .before .before .before .before) _ (c .before .before .found .given .1)))
+returns-3 c = both (c .before .before .before .before) (c .decode-typed .ensures ∙ sym (read-reached (now (c .before .before .before .before .before .before .args .s)) (c .before .before .found .given .0 .0) (reach-is (c .before .before .before .before) _ (c .before .before .found .given .1))))
 
 pub decode-spec : {M : Type 1} → statement M
 decode-spec =

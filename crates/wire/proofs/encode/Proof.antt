@@ -1,4 +1,4 @@
-use mathlib.Core.Path.{_≡_, sym, ap, _∙_}
+use mathlib.Core.Path.{_≡_, sym, ap, _∙_, subst}
 use mathlib.Core.List.{_++_}
 use denote.Ref.{now}
 use lib.ListN.{length, drop}
@@ -8,7 +8,10 @@ use Rattle.wire.specs.Outcome.{done}
 use Rattle.wire.specs.Table.{shapeOf}
 use Rattle.wire.specs.Fields.{faultOf}
 use Rattle.wire.specs.Message.{fieldsOf, typeOf}
-use Rattle.wire.specs.Writing.{imageOf}
+use Rattle.wire.specs.Writing.{imageOf, Write, writeOf}
+use Rattle.wire.specs.Bytes.{plainRoom}
+use Rattle.wire.specs.RoundTrip.{ReadsBack}
+use Rattle.wire.proofs.RoundTrip.{read-what-was-written}
 use Rattle.wire.proofs.Layouts.{layout-sane}
 use Rattle.wire.proofs.Cases.{write-unknown, write-bad-field, write-no-room, write-good}
 use borrow.Author.Needs.{needs}
@@ -23,6 +26,9 @@ use Rattle.wire.proofs.typed.fields_of.Reads as fields-of-reads
 use Rattle.wire.proofs.typed.type_of.Reads as type-of-reads
 
 -- src/lib.rt:118:9
+plain-long : (b : tie.Start) → length (b .args .plain) ≡ plainRoom
+plain-long b = search needs
+
 shape-is : (k : tie.After-shape-of) (x : Shape) → k .shape-of .result ≡ x → shapeOf (typeOf (k .before .before .before .before .args .m)) ≡ x
 shape-is k x e = ap shapeOf (sym (k .before .before .type-of .ensures)) ∙ sym (k .shape-of .ensures) ∙ e
 
@@ -30,7 +36,14 @@ known-is : (k : tie.After-shape) → shapeOf (typeOf (k .before .before .before 
 known-is k = shape-is (k .before .before) _ (k .shape .given .1)
 
 fault-is : (k : tie.After-fault-of) (x : Fault) → k .fault-of .result ≡ x → faultOf (k .before .before .shape .given .0 .0) (fieldsOf (k .before .before .before .before .before .before .before .before .args .m)) ≡ x
-fault-is k x e = ap (faultOf (k .before .before .shape .given .0 .0)) (sym (k .before .before .before .before .before .fields-of .ensures)) ∙ sym (k .fault-of .ensures) ∙ e
+fault-is k x e = ap (faultOf (k .before .before .shape .given .0 .0)) (sym (k .before .before .before .before .before .fields-of .ensures .0)) ∙ sym (k .fault-of .ensures) ∙ e
+
+-- what is written reads back, since its fields are within their types and its array is `plainRoom` long
+both : (k : tie.After-fields-of) {w : Write} → w ≡ writeOf (k .before .before .before .args .m) (k .before .before .before .args .plain) (now (k .before .before .before .args .out)) →
+    (w ≡ writeOf (k .before .before .before .args .m) (k .before .before .before .args .plain) (now (k .before .before .before .args .out))) × ReadsBack (k .before .before .before .args .m) (k .before .before .before .args .plain) w
+both k e =
+    let a = k .before .before .before .args in
+    (e, subst (ReadsBack (a .m) (a .plain)) (sym e) (read-what-was-written (a .m) (a .plain) (now (a .out)) (plain-long (k .before .before .before)) (k .fields-of .ensures .1)))
 
 type-of-requires : tie.Need-type-of-requires
 type-of-requires c κs = search needs
@@ -54,7 +67,7 @@ enum-told c = search needs
 -- src/lib.rt:122:9
 returns : tie.Need-returns
 returns c = let a = c .before .before .before .before .before .before .args in
-    sym (write-unknown (a .m) (a .plain) (now (a .out)) (shape-is (c .before .before) _ (c .enum-told .given .1)))
+    both (c .before .before .before) (sym (write-unknown (a .m) (a .plain) (now (a .out)) (shape-is (c .before .before) _ (c .enum-told .given .1))))
 
 -- src/lib.rt:125:9
 fault-of-requires : tie.Need-fault-of-requires
@@ -71,13 +84,13 @@ enum-told-3 c = search needs
 returns-2 : tie.Need-returns-2
 returns-2 c = let s = c .before .before .before .before in
     let a = c .before .before .before .before .before .before .before .before .before .before .args in
-    sym (write-bad-field (a .m) (a .plain) (now (a .out)) (s .shape .given .0 .0) (known-is s) _ (fault-is (c .before .before) _ (c .enum-told3 .given .1)))
+    both (c .before .before .before .before .before .before .before) (sym (write-bad-field (a .m) (a .plain) (now (a .out)) (s .shape .given .0 .0) (known-is s) _ (fault-is (c .before .before) _ (c .enum-told3 .given .1))))
 
 -- src/lib.rt:130:9
 returns-3 : tie.Need-returns-3
 returns-3 c = let s = c .before .before .before .before .before in
     let a = c .before .before .before .before .before .before .before .before .before .before .before .args in
-    sym (write-no-room (a .m) (a .plain) (now (a .out)) (s .shape .given .0 .0) (known-is s) (fault-is (c .before .before .before) _ (c .before .enum-told2 .given .1)) (c .if1 .taken))
+    both (c .before .before .before .before .before .before .before .before) (sym (write-no-room (a .m) (a .plain) (now (a .out)) (s .shape .given .0 .0) (known-is s) (fault-is (c .before .before .before) _ (c .before .enum-told2 .given .1)) (c .if1 .taken)))
 
 -- src/lib.rt:132:5
 put-message-requires : tie.Need-put-message-requires
@@ -93,8 +106,9 @@ returns-4 c = let p = c .before .before in
     let s = c .before .before .before .before .before .before .before .before .before in
     let l = s .shape .given .0 .0 in
     let a = c .before .before .before .before .before .before .before .before .before .before .before .before .before .before .before .args in
-    (λ i. record { outcome = done (l .size); out = (p .put-message .ensures ∙ (λ j. imageOf l (c .before .before .before .before .before .before .before .before .before .before .before .before .before .type-of .ensures j) (c .before .before .before .before .before .before .before .before .before .before .before .before .fields-of .ensures j) (a .plain) ++ drop (l .size) (now (a .out)))) i })
-    ∙ sym (write-good (a .m) (a .plain) (now (a .out)) l (known-is s) (fault-is (c .before .before .before .before .before .before .before) _ (c .before .before .before .before .before .enum-told2 .given .1)) (c .before .before .before .before .if1 .left))
+    both (c .before .before .before .before .before .before .before .before .before .before .before .before)
+    ((λ i. record { outcome = done (l .size); out = (p .put-message .ensures ∙ (λ j. imageOf l (c .before .before .before .before .before .before .before .before .before .before .before .before .before .type-of .ensures j) (c .before .before .before .before .before .before .before .before .before .before .before .before .fields-of .ensures .0 j) (a .plain) ++ drop (l .size) (now (a .out)))) i })
+    ∙ sym (write-good (a .m) (a .plain) (now (a .out)) l (known-is s) (fault-is (c .before .before .before .before .before .before .before) _ (c .before .before .before .before .before .enum-told2 .given .1)) (c .before .before .before .before .if1 .left)))
 
 pub encode-spec : {M : Type 1} → statement M
 encode-spec =

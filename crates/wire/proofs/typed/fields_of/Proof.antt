@@ -1,4 +1,7 @@
-use mathlib.Core.Path.{_≡_, sym, ap, _∙_}
+use mathlib.Core.Path.{_≡_, sym, subst}
+use Rattle.wire.specs.declared.Message.{Message}
+use Rattle.wire.specs.declared.fields.Fields.{Fields}
+use Rattle.wire.specs.RoundTrip.{InRange}
 use Rattle.wire.specs.Message.{fieldsOf}
 use borrow.Author.Needs.{needs}
 use Rattle.wire.proofs.typed.fields_of.Statement.{statement}
@@ -82,44 +85,48 @@ enum-known-m-13 c = search needs
 fields-with-requires-13 : tie.Need-fields-with-requires-13
 fields-with-requires-13 c κs = search needs
 
+-- what holds of the fields of the variant matched holds of the message's
+made : {m x : Message} {r : Fields} → m ≡ x → (r ≡ fieldsOf x) × InRange (fieldsOf x) → (r ≡ fieldsOf m) × InRange (fieldsOf m)
+made {r = r} e h = subst (λ (y : Message). (r ≡ fieldsOf y) × InRange (fieldsOf y)) (sym e) h
+
 returns : tie.Need-returns
-returns c = c .fields-with .ensures ∙ sym (ap fieldsOf (c .before .before .m .given .1))
+returns c = made (c .before .before .m .given .1) (c .fields-with .ensures)
 
 returns-2 : tie.Need-returns-2
-returns-2 c = c .fields-with2 .ensures ∙ sym (ap fieldsOf (c .before .before .m2 .given .1))
+returns-2 c = made (c .before .before .m2 .given .1) (c .fields-with2 .ensures)
 
 returns-3 : tie.Need-returns-3
-returns-3 c = c .fields-with3 .ensures ∙ sym (ap fieldsOf (c .before .before .m3 .given .1))
+returns-3 c = made (c .before .before .m3 .given .1) (c .fields-with3 .ensures)
 
 returns-4 : tie.Need-returns-4
-returns-4 c = c .fields-with4 .ensures ∙ sym (ap fieldsOf (c .before .before .m4 .given .1))
+returns-4 c = made (c .before .before .m4 .given .1) (c .fields-with4 .ensures)
 
 returns-5 : tie.Need-returns-5
-returns-5 c = c .fields-with5 .ensures ∙ sym (ap fieldsOf (c .before .before .m5 .given .1))
+returns-5 c = made (c .before .before .m5 .given .1) (c .fields-with5 .ensures)
 
 returns-6 : tie.Need-returns-6
-returns-6 c = c .fields-with6 .ensures ∙ sym (ap fieldsOf (c .before .before .m6 .given .1))
+returns-6 c = made (c .before .before .m6 .given .1) (c .fields-with6 .ensures)
 
 returns-7 : tie.Need-returns-7
-returns-7 c = c .fields-with7 .ensures ∙ sym (ap fieldsOf (c .before .before .m7 .given .1))
+returns-7 c = made (c .before .before .m7 .given .1) (c .fields-with7 .ensures)
 
 returns-8 : tie.Need-returns-8
-returns-8 c = c .fields-with8 .ensures ∙ sym (ap fieldsOf (c .before .before .m8 .given .1))
+returns-8 c = made (c .before .before .m8 .given .1) (c .fields-with8 .ensures)
 
 returns-9 : tie.Need-returns-9
-returns-9 c = c .fields-with9 .ensures ∙ sym (ap fieldsOf (c .before .before .m9 .given .1))
+returns-9 c = made (c .before .before .m9 .given .1) (c .fields-with9 .ensures)
 
 returns-10 : tie.Need-returns-10
-returns-10 c = c .fields-with10 .ensures ∙ sym (ap fieldsOf (c .before .before .m10 .given .1))
+returns-10 c = made (c .before .before .m10 .given .1) (c .fields-with10 .ensures)
 
 returns-11 : tie.Need-returns-11
-returns-11 c = c .fields-with11 .ensures ∙ sym (ap fieldsOf (c .before .before .m11 .given .1))
+returns-11 c = made (c .before .before .m11 .given .1) (c .fields-with11 .ensures)
 
 returns-12 : tie.Need-returns-12
-returns-12 c = c .fields-with12 .ensures ∙ sym (ap fieldsOf (c .before .before .m12 .given .1))
+returns-12 c = made (c .before .before .m12 .given .1) (c .fields-with12 .ensures)
 
 returns-13 : tie.Need-returns-13
-returns-13 c = c .fields-with13 .ensures ∙ sym (ap fieldsOf (c .before .before .m13 .given .1))
+returns-13 c = made (c .before .before .m13 .given .1) (c .fields-with13 .ensures)
 
 pub fields-of-spec : {M : Type 1} → statement M
 fields-of-spec =
