@@ -7,3 +7,4 @@ pub mod Rows
 pub mod Images
 pub mod RoundTrip
 pub mod OneOutcome
+pub mod Types

@@ -1,3 +1,4 @@
+-- Going from the last byte to the first, r is the number of the bytes passed: each turn takes one byte more in front (`value-before`).
 use Prim.Native.Nat.{ℕ, _+_, _*_, _-_, _^_, _<_, _≤_}
 use mathlib.Core.Path.{_≡_, sym, ap, _∙_}
 use native.Mathlib.Omega.{arith}

@@ -1,3 +1,4 @@
+-- Two bytes are a number below 256 to the second, so that the cast keeps it.
 use borrow.Author.Needs.{needs}
 use native.Mathlib.Omega.{arith}
 use Rattle.wire.proofs.Numbers.{below-width}

@@ -1,3 +1,4 @@
+-- After i turns the array is the first i bytes of the part, pasted over zeros.
 use Prim.Native.Nat.{ℕ, _+_, _*_, _-_, _^_, _<_, _≤_, _/_, _%_}
 use mathlib.Core.Path.{_≡_, sym, ap, _∙_, refl}
 use mathlib.Core.List.{List, _++_}

@@ -1,3 +1,4 @@
+-- After i turns the buffer is the first i bytes of the array, pasted over it at a.
 use Prim.Native.Nat.{ℕ, _+_, _*_, _-_, _^_, _<_, _≤_, _/_, _%_}
 use mathlib.Core.Path.{_≡_, sym, ap, _∙_, refl}
 use mathlib.Core.List.{List, _++_}

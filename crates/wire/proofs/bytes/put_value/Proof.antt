@@ -1,3 +1,4 @@
+-- After some turns the bytes passed, the digits still to come and what lies behind are the result (`digits-next`).
 use Prim.Native.Nat.{ℕ, _+_, _*_, _-_, _^_, _<_, _≤_, _/_, _%_}
 use mathlib.Core.Path.{_≡_, sym, ap, _∙_, refl}
 use mathlib.Core.List.{List, _++_}

@@ -1,3 +1,4 @@
+-- Each field is what `get` promises at the two ends that the layout gives it.
 use borrow.Author.Needs.{needs}
 use Rattle.wire.proofs.fields.fields_at.Statement.{statement}
 use Rattle.wire.proofs.fields.fields_at.Tie as tie

@@ -1,3 +1,4 @@
+-- By the two tests of the side.
 use borrow.Author.Needs.{needs}
 use borrow.Author.Tests.{eq-eqb, ne-eqb}
 use Rattle.wire.proofs.fields.side_bad.Statement.{statement}

@@ -1,3 +1,4 @@
+-- By whether the type's volume must be positive.
 use borrow.Author.Needs.{needs}
 use Rattle.wire.proofs.fields.volume_bad.Statement.{statement}
 use Rattle.wire.proofs.fields.volume_bad.Tie as tie

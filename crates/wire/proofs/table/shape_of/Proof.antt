@@ -1,3 +1,4 @@
+-- Each arm is a row of the table, and every other number differs from all of their numbers.
 use mathlib.Core.Path.{_≡_, sym, ap, _∙_}
 use borrow.Author.Tests.{ne-eqb}
 use Rattle.wire.specs.Table.{shapeOf}

@@ -1,3 +1,4 @@
+-- Each arm is a clause of the definition, and `fields_with` says that the fields are within their types.
 use mathlib.Core.Path.{_≡_, sym, subst}
 use Rattle.wire.specs.declared.Message.{Message}
 use Rattle.wire.specs.declared.fields.Fields.{Fields}

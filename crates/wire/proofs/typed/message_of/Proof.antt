@@ -1,3 +1,4 @@
+-- Each arm is a clause of the definition.
 use mathlib.Core.Path.{_≡_, sym, ap, _∙_}
 use Rattle.wire.specs.Message.{messageOf}
 use Rattle.wire.specs.declared.table.Kind.{Kind}

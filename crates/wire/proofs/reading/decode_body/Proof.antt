@@ -1,3 +1,4 @@
+-- By the first bad field: each case is one law of reading.
 use mathlib.Core.Path.{_≡_, sym, ap, _∙_}
 use denote.Ref.{now}
 use Rattle.wire.specs.declared.fields.Fault.{Fault}
@@ -7,53 +8,38 @@ use Rattle.wire.specs.Message.{messageOf}
 use Rattle.wire.specs.Reading.{decodedAs}
 use Rattle.wire.proofs.Cases.{read-good, read-bad-field}
 use borrow.Author.Needs.{needs}
-use Rattle.wire.proofs.decode_body.Statement.{statement}
-use Rattle.wire.proofs.decode_body.Tie as tie
-use Rattle.wire.proofs.decode_body.Reads as reads
-use Rattle.wire.proofs.decode_body.Lts as lts
-use Rattle.wire.proofs.bytes.plain_at.Reads as plain-at-reads
-use Rattle.wire.proofs.fields.fault_of.Reads as fault-of-reads
-use Rattle.wire.proofs.fields.fields_at.Reads as fields-at-reads
-use Rattle.wire.proofs.refused.Reads as refused-reads
-use Rattle.wire.proofs.typed.message_of.Reads as message-of-reads
+use Rattle.wire.proofs.reading.decode_body.Statement.{statement}
+use Rattle.wire.proofs.reading.decode_body.Tie as tie
 
--- src/lib.rt:223:9
 fault-is : (k : tie.After-fault-of) (x : Fault) → k .fault-of .result ≡ x → faultOf (k .before .before .before .args .l) (fieldsAt (now (k .before .before .before .args .s)) (k .before .before .before .args .l)) ≡ x
 fault-is k x e = ap (faultOf (k .before .before .before .args .l)) (sym (k .before .fields-at .ensures)) ∙ sym (k .fault-of .ensures) ∙ e
 
 fields-at-requires : tie.Need-fields-at-requires
 fields-at-requires c κs = search needs
 
--- src/lib.rt:224:9
 fault-of-requires : tie.Need-fault-of-requires
 fault-of-requires c κs = search needs
 
 enum-told : tie.Need-enum-told
 enum-told c = search needs
 
--- src/lib.rt:226:24
 enum-told-2 : tie.Need-enum-told-2
 enum-told-2 c = search needs
 
--- src/lib.rt:226:9
 refused-requires : tie.Need-refused-requires
 refused-requires c κs = search needs
 
--- src/lib.rt:226:9
 returns : tie.Need-returns
 returns c = let k = c .before .before .before in
     let a = k .before .before .before .args in
     ap decodedAs (c .refused .ensures) ∙ sym (read-bad-field (now (a .s)) (a .l) _ (fault-is k _ (c .before .enum-told2 .given .1)))
 
--- src/lib.rt:228:9
 plain-at-requires : tie.Need-plain-at-requires
 plain-at-requires c κs = search needs
 
--- src/lib.rt:229:9
 message-of-requires : tie.Need-message-of-requires
 message-of-requires c κs = search needs
 
--- src/lib.rt:216:1
 returns-2 : tie.Need-returns-2
 returns-2 c = let k = c .before .before .before .before in
     let a = k .before .before .before .args in

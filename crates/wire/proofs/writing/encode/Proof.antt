@@ -1,3 +1,4 @@
+-- By the type's shape, the first bad field and the room: each case is one law of writing.
 use mathlib.Core.Path.{_≡_, sym, ap, _∙_, subst}
 use mathlib.Core.List.{_++_}
 use denote.Ref.{now}
@@ -15,17 +16,9 @@ use Rattle.wire.proofs.RoundTrip.{read-what-was-written}
 use Rattle.wire.proofs.Layouts.{layout-sane}
 use Rattle.wire.proofs.Cases.{write-unknown, write-bad-field, write-no-room, write-good}
 use borrow.Author.Needs.{needs}
-use Rattle.wire.proofs.encode.Statement.{statement}
-use Rattle.wire.proofs.encode.Tie as tie
-use Rattle.wire.proofs.encode.Reads as reads
-use Rattle.wire.proofs.encode.Lts as lts
-use Rattle.wire.proofs.fields.fault_of.Reads as fault-of-reads
-use Rattle.wire.proofs.put_message.Reads as put-message-reads
-use Rattle.wire.proofs.table.shape_of.Reads as shape-of-reads
-use Rattle.wire.proofs.typed.fields_of.Reads as fields-of-reads
-use Rattle.wire.proofs.typed.type_of.Reads as type-of-reads
+use Rattle.wire.proofs.writing.encode.Statement.{statement}
+use Rattle.wire.proofs.writing.encode.Tie as tie
 
--- src/lib.rt:118:9
 plain-long : (b : tie.Start) → length (b .args .plain) ≡ plainRoom
 plain-long b = search needs
 
@@ -48,59 +41,47 @@ both k e =
 type-of-requires : tie.Need-type-of-requires
 type-of-requires c κs = search needs
 
--- src/lib.rt:119:9
 fields-of-requires : tie.Need-fields-of-requires
 fields-of-requires c κs = search needs
 
--- src/lib.rt:120:9
 shape-of-requires : tie.Need-shape-of-requires
 shape-of-requires c κs = search needs
 
--- src/lib.rt:121:22
 enum-known-shape : tie.Need-enum-known-shape
 enum-known-shape c = search needs
 
--- src/lib.rt:122:9
 enum-told : tie.Need-enum-told
 enum-told c = search needs
 
--- src/lib.rt:122:9
 returns : tie.Need-returns
 returns c = let a = c .before .before .before .before .before .before .args in
     both (c .before .before .before) (sym (write-unknown (a .m) (a .plain) (now (a .out)) (shape-is (c .before .before) _ (c .enum-told .given .1))))
 
--- src/lib.rt:125:9
 fault-of-requires : tie.Need-fault-of-requires
 fault-of-requires c κs = search needs
 
 enum-told-2 : tie.Need-enum-told-2
 enum-told-2 c = search needs
 
--- src/lib.rt:127:9
 enum-told-3 : tie.Need-enum-told-3
 enum-told-3 c = search needs
 
--- src/lib.rt:127:9
 returns-2 : tie.Need-returns-2
 returns-2 c = let s = c .before .before .before .before in
     let a = c .before .before .before .before .before .before .before .before .before .before .args in
     both (c .before .before .before .before .before .before .before) (sym (write-bad-field (a .m) (a .plain) (now (a .out)) (s .shape .given .0 .0) (known-is s) _ (fault-is (c .before .before) _ (c .enum-told3 .given .1))))
 
--- src/lib.rt:130:9
 returns-3 : tie.Need-returns-3
 returns-3 c = let s = c .before .before .before .before .before in
     let a = c .before .before .before .before .before .before .before .before .before .before .before .args in
     both (c .before .before .before .before .before .before .before .before) (sym (write-no-room (a .m) (a .plain) (now (a .out)) (s .shape .given .0 .0) (known-is s) (fault-is (c .before .before .before) _ (c .before .enum-told2 .given .1)) (c .if1 .taken)))
 
--- src/lib.rt:132:5
 put-message-requires : tie.Need-put-message-requires
 put-message-requires c κs = (layout-sane _ _ (known-is (c .before .before .before .before .before .before)), c .before .if1 .left)
 
--- src/lib.rt:115:1
 same-length : tie.Need-same-length
 same-length c = search needs
 
--- src/lib.rt:115:1
 returns-4 : tie.Need-returns-4
 returns-4 c = let p = c .before .before in
     let s = c .before .before .before .before .before .before .before .before .before in

@@ -1,3 +1,4 @@
+-- The part of the stream from the position to its end is what `drop` leaves of it.
 use mathlib.Core.List.{List}
 use Prim.Native.Nat.{ℕ}
 use lib.ListN.{take}
@@ -10,35 +11,26 @@ use lib.ListN.{length, length-drop, drop}
 use Rattle.wire.specs.Reading.{reachOf}
 use Rattle.wire.proofs.Cases.{reach-short}
 use borrow.Author.Needs.{needs}
-use Rattle.wire.proofs.reach_at.Statement.{statement}
-use Rattle.wire.proofs.reach_at.Tie as tie
-use Rattle.wire.proofs.reach_at.Reads as reads
-use Rattle.wire.proofs.reach_at.Lts as lts
-use Rattle.wire.proofs.first_reach.Reads as first-reach-reads
+use Rattle.wire.proofs.extent.reach_at.Statement.{statement}
+use Rattle.wire.proofs.extent.reach_at.Tie as tie
 
--- src/lib.rt:97:9
 returns : tie.Need-returns
 returns c = let s = now (c .before .before .args .s) in
     let at = c .before .before .args .at in
     sym (reach-short (drop at s) (omega (arith, length-drop at s, c .if1 .taken)))
 
--- src/lib.rt:99:17
 sub-first-reach : tie.Need-sub-first-reach
 sub-first-reach c = search needs
 
--- src/lib.rt:99:17
 part-first-reach-start : tie.Need-part-first-reach-start
 part-first-reach-start c = search needs
 
--- src/lib.rt:99:17
 part-first-reach-end : tie.Need-part-first-reach-end
 part-first-reach-end c = search needs
 
--- src/lib.rt:99:5
 first-reach-requires : tie.Need-first-reach-requires
 first-reach-requires c κs = search needs
 
--- src/lib.rt:93:1
 returns-2 : tie.Need-returns-2
 returns-2 c = let s : List ℕ = now (c .before .before .before .before .args .s) in
     let at = c .before .before .before .before .args .at in

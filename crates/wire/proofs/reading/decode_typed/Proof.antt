@@ -1,3 +1,4 @@
+-- By the type's shape and the size: each case is one law of reading.
 use mathlib.Core.Path.{_≡_, sym, ap, _∙_}
 use native.Mathlib.Omega.{arith}
 use denote.Ref.{now}
@@ -7,16 +8,9 @@ use Rattle.wire.specs.Reading.{decodedAs, msgType}
 use Rattle.wire.proofs.Layouts.{layout-sane}
 use Rattle.wire.proofs.Cases.{read-unknown, read-other-size, read-size}
 use borrow.Author.Needs.{needs}
-use Rattle.wire.proofs.decode_typed.Statement.{statement}
-use Rattle.wire.proofs.decode_typed.Tie as tie
-use Rattle.wire.proofs.decode_typed.Reads as reads
-use Rattle.wire.proofs.decode_typed.Lts as lts
-use Rattle.wire.proofs.bytes.get16.Reads as get16-reads
-use Rattle.wire.proofs.decode_body.Reads as decode-body-reads
-use Rattle.wire.proofs.refused.Reads as refused-reads
-use Rattle.wire.proofs.table.shape_of.Reads as shape-of-reads
+use Rattle.wire.proofs.reading.decode_typed.Statement.{statement}
+use Rattle.wire.proofs.reading.decode_typed.Tie as tie
 
--- src/lib.rt:204:9
 shape-is : (k : tie.After-shape-of) (x : Shape) → k .shape-of .result ≡ x → shapeOf (msgType (now (k .before .before .before .args .s))) ≡ x
 shape-is k x e = ap shapeOf (sym (k .before .get16 .ensures)) ∙ sym (k .shape-of .ensures) ∙ e
 
@@ -26,41 +20,32 @@ known-is k = shape-is (k .before .before) _ (k .shape .given .1)
 get16-requires : tie.Need-get16-requires
 get16-requires c κs = search needs
 
--- src/lib.rt:205:9
 shape-of-requires : tie.Need-shape-of-requires
 shape-of-requires c κs = search needs
 
--- src/lib.rt:206:22
 enum-known-shape : tie.Need-enum-known-shape
 enum-known-shape c = search needs
 
--- src/lib.rt:207:24
 enum-told : tie.Need-enum-told
 enum-told c = search needs
 
--- src/lib.rt:207:9
 refused-requires : tie.Need-refused-requires
 refused-requires c κs = search needs
 
--- src/lib.rt:207:9
 returns : tie.Need-returns
 returns c = let a = c .before .before .before .before .before .before .args in
     ap decodedAs (c .refused .ensures) ∙ sym (read-unknown (now (a .s)) (a .size) (shape-is (c .before .before .before) _ (c .before .enum-told .given .1)))
 
--- src/lib.rt:211:9
 refused-requires-2 : tie.Need-refused-requires-2
 refused-requires-2 c κs = search needs
 
--- src/lib.rt:211:9
 returns-2 : tie.Need-returns-2
 returns-2 c = let a = c .before .before .before .before .before .before .before .before .args in
     ap decodedAs (c .refused2 .ensures) ∙ sym (read-other-size (now (a .s)) (a .size) (c .before .before .before .shape .given .0 .0) (known-is (c .before .before .before)) (λ e. omega arith))
 
--- src/lib.rt:213:5
 decode-body-requires : tie.Need-decode-body-requires
 decode-body-requires c κs = (layout-sane _ _ (known-is (c .before .before)), omega arith)
 
--- src/lib.rt:200:1
 returns-3 : tie.Need-returns-3
 returns-3 c = let a = c .before .before .before .before .before .before .before .before .args in
     c .decode-body .ensures ∙ sym (read-size (now (a .s)) (a .size) (c .before .before .before .shape .given .0 .0) (known-is (c .before .before .before)) (omega arith))

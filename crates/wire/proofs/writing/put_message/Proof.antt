@@ -1,49 +1,36 @@
+-- The numbers, the array and the last byte, stored in turn, are the bytes of the message (`laid-is-image`).
 use mathlib.Core.Path.{_≡_, sym, ap, _∙_}
 use denote.Ref.{now}
 use lib.ListN.{length}
 use Rattle.wire.specs.Bytes.{plainRoom}
 use Rattle.wire.proofs.Laying.{ends-rise, laid-is-image}
 use borrow.Author.Needs.{needs}
-use Rattle.wire.proofs.put_message.Statement.{statement}
-use Rattle.wire.proofs.put_message.Tie as tie
-use Rattle.wire.proofs.put_message.Reads as reads
-use Rattle.wire.proofs.put_message.Lts as lts
-use Rattle.wire.proofs.bytes.put_plain.Reads as put-plain-reads
-use Rattle.wire.proofs.bytes.put_value.Reads as put-value-reads
-use Rattle.wire.proofs.bytes.put_values.Reads as put-values-reads
-use Rattle.wire.proofs.fields.ends_of.Reads as ends-of-reads
-use Rattle.wire.proofs.fields.values_of.Reads as values-of-reads
+use Rattle.wire.proofs.writing.put_message.Statement.{statement}
+use Rattle.wire.proofs.writing.put_message.Tie as tie
 
--- src/lib.rt:244:9
 plain-long : (b : tie.Start) → length (b .args .plain) ≡ plainRoom
 plain-long b = search needs
 
 ends-of-requires : tie.Need-ends-of-requires
 ends-of-requires c κs = search needs
 
--- src/lib.rt:245:9
 values-of-requires : tie.Need-values-of-requires
 values-of-requires c κs = search needs
 
--- src/lib.rt:246:5
 put-values-requires : tie.Need-put-values-requires
 put-values-requires c κs = let k = c .before .before in
     let a = k .before .before in
     rw (k .ends-of .ensures) (ends-rise (a .args .l) (a .pre .0) (length (now (a .args .out))) (a .pre .1))
 
--- src/lib.rt:247:5
 put-plain-requires : tie.Need-put-plain-requires
 put-plain-requires c κs = search needs
 
--- src/lib.rt:248:5
 put-value-requires : tie.Need-put-value-requires
 put-value-requires c κs = search needs
 
--- src/lib.rt:237:1
 same-length : tie.Need-same-length
 same-length c = search needs
 
--- src/lib.rt:237:1
 returns : tie.Need-returns
 returns c = let p = c .before .before in
     let r = p .before .before .before .before in

@@ -1,3 +1,4 @@
+-- By how far the message reaches: each case is one law of reading.
 use mathlib.Core.Path.{_≡_, sym, ap, _∙_, subst}
 use native.Mathlib.Omega.{arith}
 use denote.Ref.{now}
@@ -8,15 +9,9 @@ use Rattle.wire.specs.RoundTrip.{WritesBack}
 use Rattle.wire.proofs.RoundTrip.{write-what-was-read}
 use Rattle.wire.proofs.Cases.{Reached, reached, read-unreached, read-reached}
 use borrow.Author.Needs.{needs}
-use Rattle.wire.proofs.decode.Statement.{statement}
-use Rattle.wire.proofs.decode.Tie as tie
-use Rattle.wire.proofs.decode.Reads as reads
-use Rattle.wire.proofs.decode.Lts as lts
-use Rattle.wire.proofs.decode_typed.Reads as decode-typed-reads
-use Rattle.wire.proofs.first_reach.Reads as first-reach-reads
-use Rattle.wire.proofs.refused.Reads as refused-reads
+use Rattle.wire.proofs.reading.decode.Statement.{statement}
+use Rattle.wire.proofs.reading.decode.Tie as tie
 
--- src/lib.rt:106:9
 reach-is : (k : tie.After-first-reach) (x : Reach) → k .first-reach .result ≡ x → reachOf (now (k .before .before .args .s)) ≡ reachedAs x
 reach-is k x e = sym (k .first-reach .ensures) ∙ ap reachedAs e
 
@@ -29,39 +24,30 @@ both k e =
 first-reach-requires : tie.Need-first-reach-requires
 first-reach-requires c κs = search needs
 
--- src/lib.rt:108:33
 enum-told : tie.Need-enum-told
 enum-told c = search needs
 
--- src/lib.rt:108:25
 refused-requires : tie.Need-refused-requires
 refused-requires c κs = search needs
 
--- src/lib.rt:109:33
 enum-told-2 : tie.Need-enum-told-2
 enum-told-2 c = search needs
 
--- src/lib.rt:109:25
 refused-requires-2 : tie.Need-refused-requires-2
 refused-requires-2 c κs = search needs
 
--- src/lib.rt:110:21
 enum-known-found : tie.Need-enum-known-found
 enum-known-found c = search needs
 
--- src/lib.rt:110:30
 decode-typed-requires : tie.Need-decode-typed-requires
 decode-typed-requires c κs = let r = reached (now (c .before .before .before .before .before .args .s)) (c .before .found .given .0 .0) (reach-is (c .before .before .before) _ (c .before .found .given .1)) in (r .least, r .there)
 
--- src/lib.rt:103:1
 returns : tie.Need-returns
 returns c = both (c .before .before .before) (ap decodedAs (c .refused .ensures) ∙ sym (read-unreached (now (c .before .before .before .before .before .args .s)) 1 (reach-is (c .before .before .before) _ (c .before .enum-told .given .1))))
 
--- src/lib.rt:103:1
 returns-2 : tie.Need-returns-2
 returns-2 c = both (c .before .before .before) (ap decodedAs (c .refused2 .ensures) ∙ sym (read-unreached (now (c .before .before .before .before .before .args .s)) 2 (reach-is (c .before .before .before) _ (c .before .enum-told2 .given .1))))
 
--- src/lib.rt:103:1
 returns-3 : tie.Need-returns-3
 returns-3 c = both (c .before .before .before .before) (c .decode-typed .ensures ∙ sym (read-reached (now (c .before .before .before .before .before .before .args .s)) (c .before .before .found .given .0 .0) (reach-is (c .before .before .before .before) _ (c .before .before .found .given .1))))
 
