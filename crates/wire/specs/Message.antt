@@ -1,5 +1,10 @@
 -- Typed messages: which fields each type has, and its number.
 use Prim.Native.Nat.{ℕ}
+use mathlib.Core.Bool.{Bool, true, false}
+use Rattle.wire.specs.Table.{shapeOf}
+use Rattle.wire.specs.Fields.{faultOf}
+use Rattle.wire.specs.declared.table.Shape.{Shape}
+use Rattle.wire.specs.declared.fields.Fault.{Fault}
 use Rattle.wire.specs.declared.table.Kind.{Kind}
 use Rattle.wire.specs.declared.fields.Fields.{Fields}
 use Rattle.wire.specs.declared.Head.{Head}
@@ -72,3 +77,15 @@ typeOf (CrossCorrection h cross volume) = 113
 typeOf (Retail h indicator) = 114
 typeOf (Clear h seconds) = 32
 typeOf (Status h seconds) = 34
+
+-- has it a field that document 01 calls bad?
+abbrev pub isFault : Fault → Bool
+isFault Fault.Nothing = false
+isFault (Fault.At n) = true
+
+abbrev pub badUnder : Shape → Message → Bool
+badUnder Shape.Unknown m = false
+badUnder (Shape.Known l) m = isFault (faultOf l (fieldsOf m))
+
+unfoldable pub hasBadField : Message → Bool
+hasBadField m = badUnder (shapeOf (typeOf m)) m

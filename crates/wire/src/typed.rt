@@ -1,11 +1,15 @@
 // Typed messages and their fields: each type has its own.
 use crate::Head;
 use crate::Message;
+use crate::fields::Fault;
 use crate::fields::Fields;
+use crate::fields::fault_of;
 use crate::table::Kind;
+use crate::table::Shape;
+use crate::table::shape_of;
 ghost use mathlib.Core.Path.{_≡_};
 ghost use Rattle.wire.specs.RoundTrip.{InRange};
-ghost use Rattle.wire.specs.Message.{messageOf, fieldsWith, fieldsOf, typeOf};
+ghost use Rattle.wire.specs.Message.{messageOf, fieldsWith, fieldsOf, typeOf, hasBadField};
 
 // The message of a type with these fields.
 pub(crate) fn message_of(k: Kind, f: Fields) -> Message
@@ -204,4 +208,21 @@ pub fn type_of(m: Message) -> u16
         Message::Clear { .. } => 32,
         Message::Status { .. } => 34,
     }
+}
+
+// Whether a message has a bad field. One that was read has none; one that was made by hand may.
+pub fn has_bad_field(m: Message) -> bool
+    ensures { λ r. ⌜ r ≡ hasBadField m ⌝ }
+{
+    let number = type_of(m);
+    let f = fields_of(m);
+    let shape = shape_of(number);
+    let Shape::Known(l) = shape else {
+        return false;
+    };
+    let fault = fault_of(l, f);
+    let Fault::Nothing = fault else {
+        return true;
+    };
+    false
 }
