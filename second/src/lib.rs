@@ -1,0 +1,16 @@
+//! An ordinary reader of the NYSE Pillar Integrated Feed, written from the documents alone.
+//! The verified reader is compared with it. See README.md.
+
+pub mod answer;
+pub mod book;
+pub mod cursor;
+pub mod line;
+pub mod make;
+pub mod named;
+pub mod probe;
+pub mod program;
+pub mod reader;
+pub mod record;
+pub mod symbol;
+pub mod vectors;
+pub mod wire;

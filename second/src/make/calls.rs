@@ -1,0 +1,178 @@
+//! Lists of calls of every kind, from a seed.
+
+use super::call_maker::Maker;
+use super::fills;
+use super::outputs;
+use super::random::Random;
+use super::registers;
+use crate::probe::LARGEST_FILE;
+use crate::reader::SYMBOLS;
+use crate::wire::write::to_bytes;
+
+#[derive(Clone, Copy, PartialEq, Eq, Debug)]
+pub enum CallKind {
+    Plain,
+    Faults,
+    Full,
+    Edges,
+    Mixed,
+}
+
+/// The kinds by name.
+pub const CALL_KINDS: [(&str, CallKind); 5] = [
+    ("plain", CallKind::Plain),
+    ("faults", CallKind::Faults),
+    ("full", CallKind::Full),
+    ("edges", CallKind::Edges),
+    ("mixed", CallKind::Mixed),
+];
+
+/// A file of `count` calls, or fewer where they would make it too long for the probe.
+pub fn calls(seed: u64, kind: CallKind, count: usize) -> Vec<u8> {
+    let mut maker = Maker::new(Random::new(seed, &format!("calls {kind:?}")));
+    begin(&mut maker, kind);
+    let mut now = kind;
+    while maker.list.count() < count && maker.list.len() < LARGEST_FILE {
+        if kind == CallKind::Mixed && (now == kind || maker.random().one_in(20)) {
+            now = maker.random().pick(&CALL_KINDS[..4]).1;
+        }
+        push(&mut maker, now);
+    }
+    maker.list.keep(count, LARGEST_FILE);
+    if matches!(kind, CallKind::Faults | CallKind::Mixed) && maker.random().one_in(3) {
+        maker.list.keep(count.saturating_sub(1), LARGEST_FILE - 16);
+        let last: [&[u8]; 4] = [
+            b"Z",
+            b"Q\x07\x00",
+            b"W\x01\x00\x00\x00\x01\x01\x00\x00",
+            b"X",
+        ];
+        let last = maker.random().pick(&last);
+        maker.list.raw(last);
+    }
+    maker.list.into_bytes()
+}
+
+/// Registers some symbols, eight where books are to be full, and then tries a ninth.
+fn begin(maker: &mut Maker, kind: CallKind) {
+    let symbols = match kind {
+        CallKind::Full => SYMBOLS,
+        _ => maker.random().pick(&[1, 1, 2, 3, SYMBOLS]),
+    };
+    let mut tries = 0;
+    while maker.source.indices().len() < symbols && tries < 60 {
+        let asked = registers::good(maker.random());
+        maker.register(asked);
+        tries += 1;
+    }
+    if symbols == SYMBOLS {
+        let ninth = registers::good(maker.random());
+        maker.register(ninth);
+    }
+}
+
+fn begin_again(maker: &mut Maker, kind: CallKind) {
+    maker.new_state();
+    begin(maker, kind);
+}
+
+/// One more call, or a few.
+fn push(maker: &mut Maker, kind: CallKind) {
+    maker.source.draw.edges = kind == CallKind::Edges;
+    maker.source.clears = if kind == CallKind::Edges { 25 } else { 120 };
+    if maker.source.indices().is_empty() || maker.random().one_in(400) {
+        return begin_again(maker, kind);
+    }
+    if maker.clear_stale() {
+        return;
+    }
+    match kind {
+        CallKind::Faults => push_fault(maker),
+        CallKind::Full if maker.random().one_in(4) => fills::push_fill(maker),
+        _ => push_plain(maker),
+    }
+}
+
+fn push_plain(maker: &mut Maker) {
+    match maker.random().below(20) {
+        0..=5 => {
+            let bytes = maker.next_message();
+            maker.step(&bytes);
+        }
+        6..=9 => {
+            let count = 1 + maker.random().below(12);
+            let bytes: Vec<u8> = (0..count).flat_map(|_| maker.next_message()).collect();
+            maker.run(&bytes);
+        }
+        10..=12 => {
+            let index = maker.any_index();
+            maker.list.quote(index);
+        }
+        13..=15 => {
+            let index = maker.any_index();
+            maker.list.volume(index);
+        }
+        16 => {
+            let index = maker.source.index();
+            let message = maker.source.sample(index);
+            maker.read(&to_bytes(&message));
+        }
+        17 => outputs::push_write(maker, false),
+        _ => outputs::push_line(maker, false),
+    }
+}
+
+fn push_fault(maker: &mut Maker) {
+    match maker.random().below(20) {
+        0..=3 => {
+            let registered = maker.source.indices().to_vec();
+            let asked = registers::faulty(maker.random(), &registered);
+            maker.register(asked);
+        }
+        4..=9 => {
+            let bytes = maker.faulty_message();
+            maker.step(&bytes);
+        }
+        10..=11 => {
+            let bytes: Vec<u8> = (0..6)
+                .flat_map(|place| match place {
+                    3 => maker.faulty_message(),
+                    _ => maker.next_message(),
+                })
+                .collect();
+            maker.run(&bytes);
+        }
+        12 => {
+            let bytes = maker.faulty_message();
+            maker.read(&bytes);
+        }
+        13..=14 => outputs::push_write(maker, true),
+        15..=16 => outputs::push_line(maker, true),
+        17 if maker.random().one_in(4) => begin_again(maker, CallKind::Faults),
+        _ => push_plain(maker),
+    }
+}
+
+#[cfg(test)]
+mod tests {
+    use super::{calls, CALL_KINDS};
+    use crate::probe::{probe, LARGEST_FILE};
+
+    #[test]
+    fn a_seed_gives_one_list_of_as_many_calls() {
+        for (name, kind) in CALL_KINDS {
+            let bytes = calls(3, kind, 200);
+            assert!(bytes == calls(3, kind, 200), "{name} differs");
+            assert_eq!(probe(&bytes).lines().count(), 200, "{name}");
+        }
+    }
+
+    #[test]
+    fn a_long_list_is_cut_to_fit() {
+        for (name, kind) in CALL_KINDS {
+            let bytes = calls(4, kind, 100_000);
+            assert!(bytes.len() <= LARGEST_FILE, "{name}");
+            assert!(bytes.len() > LARGEST_FILE / 2, "{name}");
+        }
+    }
+}

@@ -1,0 +1,180 @@
+//! Feeds of every kind, from a seed.
+
+use super::damage::{damaged, derailed, noise, sent};
+use super::ends;
+use super::messages::ABC;
+use super::random::Random;
+use super::source::Source;
+use super::strays::stray;
+use crate::answer::Refusal;
+use crate::book::LIVE_ORDERS;
+use crate::program::new_reader;
+use crate::reader::Reader;
+use crate::wire::{Body, Message};
+
+#[derive(Clone, Copy, PartialEq, Eq, Debug)]
+pub enum FeedKind {
+    Valid,
+    Lossy,
+    Misfit,
+    Damaged,
+    Noise,
+    Edges,
+    Cut,
+    Mixed,
+}
+
+/// The kinds by name.
+pub const FEED_KINDS: [(&str, FeedKind); 8] = [
+    ("valid", FeedKind::Valid),
+    ("lossy", FeedKind::Lossy),
+    ("misfit", FeedKind::Misfit),
+    ("damaged", FeedKind::Damaged),
+    ("noise", FeedKind::Noise),
+    ("edges", FeedKind::Edges),
+    ("cut", FeedKind::Cut),
+    ("mixed", FeedKind::Mixed),
+];
+
+/// A feed of `count` messages. Only index 7 is registered where the program reads it.
+pub fn feed(seed: u64, kind: FeedKind, count: usize) -> Vec<u8> {
+    let mut maker = Maker::new(Random::new(seed, &format!("feed {kind:?}")));
+    let mut now = kind;
+    for _ in 0..count {
+        if kind == FeedKind::Mixed && (now == kind || maker.random().one_in(25)) {
+            now = maker.random().pick(&FEED_KINDS[..7]).1;
+        }
+        let bytes = maker.next(now);
+        maker.push(&bytes);
+    }
+    if matches!(kind, FeedKind::Cut | FeedKind::Mixed) {
+        ends::push_end(&mut maker.source.draw.random, &mut maker.bytes);
+    }
+    maker.bytes
+}
+
+struct Maker {
+    source: Source,
+    /// What the program holds after the bytes so far, as long as it finds the messages in them.
+    program: Reader,
+    bytes: Vec<u8>,
+}
+
+impl Maker {
+    fn new(random: Random) -> Maker {
+        let mut source = Source::new(random);
+        for index in [ABC, 8, 0, u32::MAX, 0x0700_0000] {
+            let _ = source.register(index, 4, b"ABC");
+        }
+        let depth = source.draw.random.pick(&[2, 8, 30, LIVE_ORDERS]);
+        source.aim_at(depth);
+        Maker {
+            source,
+            program: new_reader(),
+            bytes: Vec::new(),
+        }
+    }
+
+    fn random(&mut self) -> &mut Random {
+        &mut self.source.draw.random
+    }
+
+    fn push(&mut self, bytes: &[u8]) {
+        self.program.run(bytes, 0);
+        self.bytes.extend(bytes);
+    }
+
+    /// The bytes of one more message.
+    fn next(&mut self, kind: FeedKind) -> Vec<u8> {
+        self.source.draw.edges = kind == FeedKind::Edges;
+        self.source.clears = if kind == FeedKind::Edges { 40 } else { 150 };
+        if self.program.quote(ABC) == Err(Refusal::Stale) && self.random().one_in(9) {
+            let message = self.source.clear(ABC);
+            return self.sent(message);
+        }
+        let message = match kind {
+            FeedKind::Damaged => return self.maybe_damaged(),
+            FeedKind::Noise if !self.random().one_in(8) => return noise(self.random()),
+            FeedKind::Cut if self.random().one_in(8) => {
+                return ends::filler(&mut self.source.draw.random, self.bytes.len())
+            }
+            FeedKind::Lossy => self.delivered(),
+            FeedKind::Misfit => self.maybe_stray(8),
+            FeedKind::Edges => self.maybe_stray(40),
+            FeedKind::Valid | FeedKind::Noise | FeedKind::Cut | FeedKind::Mixed => {
+                self.source.next()
+            }
+        };
+        self.sent(message)
+    }
+
+    fn sent(&mut self, message: Message) -> Vec<u8> {
+        sent(&message, self.random())
+    }
+
+    /// The next message that is not lost; a clear never is.
+    fn delivered(&mut self) -> Message {
+        let mut message = self.source.next();
+        if self.random().one_in(25) {
+            for _ in 0..=self.random().below(3) {
+                if matches!(message.body, Body::Clear { .. }) {
+                    break;
+                }
+                message = self.source.next();
+            }
+        }
+        message
+    }
+
+    /// A message in its turn or a stray, one in so many once the book is as deep as it is to be.
+    fn maybe_stray(&mut self, rate: usize) -> Message {
+        let index = self.source.index();
+        let rate = if self.source.is_deep(index) {
+            rate
+        } else {
+            150
+        };
+        if self.random().one_in(rate) {
+            stray(&mut self.source, index)
+        } else {
+            self.source.next_of(index)
+        }
+    }
+
+    fn maybe_damaged(&mut self) -> Vec<u8> {
+        let message = self.source.next();
+        let random = &mut self.source.draw.random;
+        match random.below(600) {
+            0 => derailed(&message, random),
+            1..=50 => damaged(&message, random),
+            _ => sent(&message, random),
+        }
+    }
+}
+
+#[cfg(test)]
+mod tests {
+    use super::{feed, FEED_KINDS};
+    use crate::wire::extent;
+    use crate::wire::message::TYPES;
+
+    #[test]
+    fn a_seed_gives_one_feed_and_every_type() {
+        for (name, kind) in FEED_KINDS {
+            let bytes = feed(1, kind, 2000);
+            assert!(bytes == feed(1, kind, 2000), "{name} differs");
+            assert!(bytes != feed(2, kind, 2000), "{name} does not differ");
+            let mut types = Vec::new();
+            let mut at = 0;
+            while let Ok(size) = extent(&bytes, at) {
+                types.push(u16::from_le_bytes([bytes[at + 2], bytes[at + 3]]));
+                at += size;
+            }
+            if name != "damaged" && name != "mixed" {
+                for kind in TYPES {
+                    assert!(types.contains(&kind), "{name} has no {kind}");
+                }
+            }
+        }
+    }
+}

@@ -1,0 +1,16 @@
+//! Makers of test input: messages, feeds, lists of calls.
+
+pub mod call_list;
+mod call_maker;
+pub mod calls;
+mod damage;
+mod draw;
+mod ends;
+pub mod feeds;
+mod fills;
+pub mod messages;
+mod outputs;
+pub mod random;
+mod registers;
+mod source;
+mod strays;

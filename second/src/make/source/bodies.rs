@@ -1,0 +1,159 @@
+//! What the messages of a source say: changes that fit the book as it is.
+
+use super::{side_byte, Source};
+use crate::book::LIVE_ORDERS;
+use crate::wire::Body;
+
+impl Source {
+    pub(super) fn body(&mut self, index: u32) -> Body {
+        let live = self.live(index).len();
+        let adds = match live {
+            LIVE_ORDERS.. => 0,
+            _ if live < self.depth && self.depth == LIVE_ORDERS => 92,
+            _ if live < self.depth => 55,
+            _ => 8,
+        };
+        if self.draw.random.below(100) < adds {
+            return self.add_body(index);
+        }
+        if live > 0 && !self.draw.random.one_in(3) {
+            return self.order_body(index);
+        }
+        self.other_body(index)
+    }
+
+    pub fn add_body(&mut self, index: u32) -> Body {
+        let side = self.draw.side();
+        Body::Add {
+            order: self.unused_order(index),
+            price: self.draw.price(side),
+            volume: self.draw.volume(),
+            side,
+            firm: self.draw.firm(),
+        }
+    }
+
+    /// A change of a live order.
+    fn order_body(&mut self, index: u32) -> Body {
+        let place = self.draw.random.below(self.live(index).len());
+        let live = self.live(index)[place];
+        let order = live.number;
+        let side = side_byte(live.side);
+        let price = if self.draw.random.one_in(3) {
+            live.price
+        } else {
+            self.draw.price(side)
+        };
+        match self.draw.random.below(9) {
+            0 | 1 => Body::Modify {
+                order,
+                price,
+                volume: self.draw.volume(),
+                position: self.draw.flag(),
+                side,
+            },
+            2 | 3 => Body::Delete { order },
+            4 | 5 => Body::Replace {
+                order,
+                new_order: if self.draw.random.one_in(4) {
+                    order
+                } else {
+                    self.unused_order(index)
+                },
+                price,
+                volume: self.draw.volume(),
+                side,
+            },
+            _ => Body::Execute {
+                order,
+                trade: self.draw.id(),
+                price,
+                volume: self.part_of(live.volume),
+                printable: self.draw.flag(),
+                conditions: self.draw.conditions(),
+            },
+        }
+    }
+
+    /// A type that changes no order.
+    pub fn other_body(&mut self, index: u32) -> Body {
+        match self.draw.random.below(9) {
+            0 | 1 => Body::Trade {
+                trade: self.draw.id(),
+                price: self.draw.price(b'B'),
+                volume: self.draw.volume(),
+                printable: self.draw.flag(),
+                conditions: self.draw.conditions(),
+            },
+            2 | 3 => self.cross_body(),
+            4 => self.cancel_body(index),
+            5 => Body::Correction {
+                cross: self.draw.id(),
+                volume: self.draw.cross_volume(),
+            },
+            6 => Body::Retail {
+                indicator: self.draw.letter(),
+            },
+            7 => Body::Imbalance {
+                seconds: self.draw.seconds(),
+                plain: self.draw.random.array(),
+            },
+            _ => Body::Status {
+                seconds: self.draw.seconds(),
+                plain: self.draw.random.array(),
+            },
+        }
+    }
+
+    pub fn cross_body(&mut self) -> Body {
+        Body::Cross {
+            cross: self.draw.id(),
+            price: self.draw.price(b'S'),
+            volume: self.draw.cross_volume(),
+            cross_type: self.draw.letter(),
+        }
+    }
+
+    /// Mostly of a trade that is kept.
+    pub fn cancel_body(&mut self, index: u32) -> Body {
+        let kept = self.kept(index);
+        let trade = if self.draw.random.one_in(10) {
+            self.draw.id()
+        } else if kept.is_empty() {
+            let indicator = self.draw.letter();
+            return Body::Retail { indicator };
+        } else {
+            self.draw.random.pick(&kept)
+        };
+        Body::Cancel { trade }
+    }
+
+    /// All of a volume, one share of it, or some.
+    fn part_of(&mut self, volume: u32) -> u32 {
+        match self.draw.random.below(3) {
+            0 => volume,
+            1 => 1,
+            _ => self.draw.random.u32_below(volume) + 1,
+        }
+    }
+
+    /// An order number that is not live; it may have been.
+    fn unused_order(&mut self, index: u32) -> u64 {
+        for _ in 0..3 {
+            let order = self.draw.order();
+            if !self.is_live(index, order) {
+                return order;
+            }
+        }
+        loop {
+            let order = self.draw.random.u64();
+            if !self.is_live(index, order) {
+                return order;
+            }
+        }
+    }
+
+    fn is_live(&self, index: u32, number: u64) -> bool {
+        self.live(index).iter().any(|order| order.number == number)
+    }
+}

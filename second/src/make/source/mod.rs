@@ -1,0 +1,162 @@
+//! A source of messages that a reader of all of them applies: it keeps a reader of its own, so that
+//! modifies, deletes, executions and replaces meet live orders.
+
+mod bodies;
+
+use super::draw::Draw;
+use super::random::Random;
+use crate::answer::Refusal;
+use crate::book::{Order, Side, LIVE_ORDERS};
+use crate::line::line_text;
+use crate::reader::Reader;
+use crate::wire::{Body, Message};
+
+#[derive(Clone)]
+pub struct Source {
+    pub draw: Draw,
+    reader: Reader,
+    indices: Vec<u32>,
+    /// How many live orders a symbol is to have.
+    depth: usize,
+    /// One message in so many is a clear.
+    pub clears: usize,
+}
+
+impl Source {
+    /// A source with no symbol yet.
+    pub fn new(random: Random) -> Source {
+        Source {
+            draw: Draw {
+                random,
+                edges: false,
+            },
+            reader: Reader::new(),
+            indices: Vec::new(),
+            depth: 8,
+            clears: 150,
+        }
+    }
+
+    /// One more symbol; the first has most of the messages.
+    pub fn register(&mut self, index: u32, scale: u8, name: &[u8]) -> Result<(), Refusal> {
+        self.reader.register(index, scale, name)?;
+        self.indices.push(index);
+        Ok(())
+    }
+
+    pub fn indices(&self) -> &[u32] {
+        &self.indices
+    }
+
+    /// The numbers of the trades that are kept.
+    pub fn kept(&self, index: u32) -> Vec<u32> {
+        let symbol = self.reader.symbol(index);
+        let trades = symbol.map_or(&[][..], |symbol| symbol.record.trades());
+        trades.iter().map(|trade| trade.number).collect()
+    }
+
+    /// The next message of any symbol; it is applied here.
+    pub fn next(&mut self) -> Message {
+        let index = self.index();
+        self.next_of(index)
+    }
+
+    /// The next message of a symbol; it is applied here.
+    pub fn next_of(&mut self, index: u32) -> Message {
+        let used_up = self.expected(index) > u64::from(u32::MAX);
+        let clears = if used_up { 5 } else { self.clears };
+        let message = if self.draw.random.one_in(clears) {
+            self.clear_sample(index)
+        } else {
+            self.sample(index)
+        };
+        self.apply(message)
+    }
+
+    /// A clear of a symbol; it is applied here.
+    pub fn clear(&mut self, index: u32) -> Message {
+        let message = self.clear_sample(index);
+        self.apply(message)
+    }
+
+    /// A numbered message made elsewhere; it is applied here if it fits.
+    pub fn apply(&mut self, message: Message) -> Message {
+        let _ = self.reader.apply(&message);
+        message
+    }
+
+    pub fn index(&mut self) -> u32 {
+        if self.draw.random.one_in(5) {
+            self.draw.random.pick(&self.indices)
+        } else {
+            self.indices[0]
+        }
+    }
+
+    pub fn live(&self, index: u32) -> &[Order] {
+        let symbol = self.reader.symbol(index);
+        symbol.map_or(&[], |symbol| symbol.book.orders())
+    }
+
+    pub fn expected(&self, index: u32) -> u64 {
+        let symbol = self.reader.symbol(index);
+        symbol.map_or(1, |symbol| symbol.expected())
+    }
+
+    /// The length of a message's line; 0 when it has none.
+    pub fn line_length(&self, message: &Message, sequence: u32, second: u32) -> usize {
+        line_text(&self.reader, message, sequence, second).map_or(0, |text| text.len())
+    }
+
+    /// Whether the book of a symbol is as deep as it is to be.
+    pub fn is_deep(&self, index: u32) -> bool {
+        self.live(index).len() >= self.depth
+    }
+
+    /// From now on books of about that many orders.
+    pub fn aim_at(&mut self, depth: usize) {
+        self.depth = depth;
+    }
+
+    /// A message that fits now, not applied. Past the last number it has one that was used.
+    pub fn sample(&mut self, index: u32) -> Message {
+        let number = u32::try_from(self.expected(index))
+            .unwrap_or_else(|_| self.draw.random.pick(&[u32::MAX, 0, 1, 77]));
+        let body = self.body(index);
+        self.message(index, number, body)
+    }
+
+    pub fn message(&mut self, index: u32, number: u32, body: Body) -> Message {
+        Message {
+            nanoseconds: self.draw.nanoseconds(),
+            index,
+            number,
+            body,
+        }
+    }
+
+    /// A clear, not applied. It gives the expected number, one near it, or one at an edge.
+    pub fn clear_sample(&mut self, index: u32) -> Message {
+        let expected = self.expected(index) as u32;
+        let near = self.draw.random.u32_below(5);
+        let next = if self.draw.edges {
+            self.draw
+                .random
+                .pick(&[u32::MAX - near, u32::MAX - near, 0, 1, expected])
+        } else {
+            self.draw
+                .random
+                .pick(&[expected, expected, expected.saturating_add(near), 1, 0])
+        };
+        self.depth = self.draw.random.pick(&[2, 8, 30, LIVE_ORDERS, LIVE_ORDERS]);
+        let seconds = self.draw.seconds();
+        self.message(index, next, Body::Clear { seconds })
+    }
+}
+
+pub fn side_byte(side: Side) -> u8 {
+    match side {
+        Side::Buy => b'B',
+        Side::Sell => b'S',
+    }
+}

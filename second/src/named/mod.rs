@@ -1,0 +1,104 @@
+//! Small files named after the cases of document 01, "A day in symbol ABC", its easy errors and the
+//! corners of its rules. `NAME.feed` is for the program, `NAME.calls` for the probe.
+
+mod book;
+mod day;
+mod fields;
+mod listed;
+mod page;
+mod printout;
+mod record;
+mod registering;
+mod stream;
+
+use std::io;
+use std::path::Path;
+
+use crate::make::call_list::CallList;
+use crate::make::messages::{feed, ABC};
+use crate::wire::Message;
+
+/// The cases so far: a file name and what is in the file.
+#[derive(Default)]
+pub struct Cases {
+    files: Vec<(String, Vec<u8>)>,
+}
+
+impl Cases {
+    pub fn all() -> Cases {
+        let mut cases = Cases::default();
+        day::add_to(&mut cases);
+        listed::add_to(&mut cases);
+        printout::add_to(&mut cases);
+        fields::add_to(&mut cases);
+        book::add_to(&mut cases);
+        record::add_to(&mut cases);
+        registering::add_to(&mut cases);
+        page::add_to(&mut cases);
+        stream::add_to(&mut cases);
+        cases
+    }
+
+    pub fn files(&self) -> &[(String, Vec<u8>)] {
+        &self.files
+    }
+
+    pub fn write_into(&self, folder: &Path) -> io::Result<()> {
+        std::fs::create_dir_all(folder)?;
+        for (name, bytes) in &self.files {
+            std::fs::write(folder.join(name), bytes)?;
+        }
+        Ok(())
+    }
+
+    fn feed(&mut self, name: &str, messages: &[Message]) {
+        self.feed_bytes(name, feed(messages));
+    }
+
+    fn feed_bytes(&mut self, name: &str, bytes: Vec<u8>) {
+        self.files.push((format!("{name}.feed"), bytes));
+    }
+
+    fn calls(&mut self, name: &str, make: impl FnOnce(&mut CallList)) {
+        let mut calls = CallList::new();
+        make(&mut calls);
+        self.files
+            .push((format!("{name}.calls"), calls.into_bytes()));
+    }
+
+    /// Calls that start with ABC registered and end with its quote and volume.
+    fn calls_on_abc(&mut self, name: &str, make: impl FnOnce(&mut CallList)) {
+        self.calls(name, |calls| {
+            calls.register(ABC, 4, b"ABC");
+            make(calls);
+            calls.quote(ABC);
+            calls.volume(ABC);
+        });
+    }
+
+    /// The messages as a feed, and as steps with the quote and volume after each.
+    fn both(&mut self, name: &str, messages: &[Message]) {
+        self.feed(name, messages);
+        self.calls(name, |calls| {
+            calls.register(ABC, 4, b"ABC");
+            for message in messages {
+                calls.step(0, &feed(&[*message]));
+                calls.quote(ABC);
+                calls.volume(ABC);
+            }
+        });
+    }
+}
+
+#[cfg(test)]
+mod tests {
+    use super::Cases;
+    use std::collections::HashSet;
+
+    #[test]
+    fn every_name_is_used_once() {
+        let cases = Cases::all();
+        let names: HashSet<_> = cases.files().iter().map(|(name, _)| name).collect();
+        assert_eq!(names.len(), cases.files().len());
+    }
+}

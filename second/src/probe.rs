@@ -1,0 +1,138 @@
+//! The probe: library calls listed in a file, one line printed for each.
+
+use std::fmt::Write;
+
+use crate::answer::{number, Refusal};
+use crate::book::Level;
+use crate::cursor::{hex, Cursor};
+use crate::line::line;
+use crate::reader::Reader;
+use crate::wire::{read, write, Message};
+
+/// A longer file is refused.
+pub const LARGEST_FILE: usize = 1_048_576;
+/// A larger buffer is refused.
+pub const LARGEST_ROOM: usize = 256;
+
+/// One line for each call; `?` and the end where the file cannot be understood.
+pub fn probe(calls: &[u8]) -> String {
+    let mut text = String::new();
+    if calls.len() > LARGEST_FILE {
+        text.push_str("?\n");
+        return text;
+    }
+    let mut reader = Reader::new();
+    let mut cursor = Cursor::new(calls);
+    while !cursor.is_empty() {
+        let Some(line) = call(&mut reader, &mut cursor) else {
+            text.push_str("?\n");
+            break;
+        };
+        text.push_str(&line);
+        text.push('\n');
+    }
+    text
+}
+
+fn call(reader: &mut Reader, cursor: &mut Cursor) -> Option<String> {
+    match cursor.u8()? {
+        b'N' => {
+            *reader = Reader::new();
+            Some("N".to_string())
+        }
+        b'G' => {
+            let index = cursor.u32()?;
+            let scale = cursor.u8()?;
+            let length = cursor.u8()?;
+            let name = cursor.bytes(usize::from(length))?;
+            let done = reader.register(index, scale, name);
+            Some(format!("G,{}", number(&done)))
+        }
+        b'S' => {
+            let at = usize::from(cursor.u16()?);
+            let (next, done) = reader.step(cursor.counted()?, at);
+            Some(format!("S,{},{next}", number(&done)))
+        }
+        b'X' => {
+            let at = usize::from(cursor.u16()?);
+            let (end, stop) = reader.run(cursor.counted()?, at);
+            Some(format!("X,{},{end}", stop as u8))
+        }
+        b'D' => {
+            let at = usize::from(cursor.u16()?);
+            let (next, message) = read(cursor.counted()?, at);
+            Some(format!("D,{},{next}", number(&message)))
+        }
+        b'Q' => Some(quote_line(reader, cursor.u32()?)),
+        b'V' => Some(volume_line(reader, cursor.u32()?)),
+        b'W' => {
+            let nanoseconds = cursor.u32()?;
+            let mut buffer = buffer(cursor)?;
+            let message = timed(cursor.counted()?, nanoseconds);
+            let done = message.map(|message| write(&message, &mut buffer));
+            Some(output_line('W', done, &buffer))
+        }
+        b'L' => {
+            let nanoseconds = cursor.u32()?;
+            let sequence = cursor.u32()?;
+            let second = cursor.u32()?;
+            let mut buffer = buffer(cursor)?;
+            let message = timed(cursor.counted()?, nanoseconds);
+            let done = message.map(|message| line(reader, &message, sequence, second, &mut buffer));
+            Some(output_line('L', done, &buffer))
+        }
+        _ => None,
+    }
+}
+
+/// A buffer of the call's room, every byte of it marked.
+fn buffer(cursor: &mut Cursor) -> Option<Vec<u8>> {
+    let room = usize::from(cursor.u16()?);
+    (room <= LARGEST_ROOM).then(|| vec![0xAA; room])
+}
+
+/// The message at the start of these bytes, with other nanoseconds.
+fn timed(bytes: &[u8], nanoseconds: u32) -> Result<Message, Refusal> {
+    read(bytes, 0).1.map(|message| Message {
+        nanoseconds,
+        ..message
+    })
+}
+
+/// The answer of a write or a line, or of the read before it.
+fn output_line(
+    letter: char,
+    done: Result<Result<usize, Refusal>, Refusal>,
+    buffer: &[u8],
+) -> String {
+    match done {
+        Ok(done) => format!(
+            "{letter},{},{},{}",
+            number(&done),
+            done.unwrap_or(0),
+            hex(buffer)
+        ),
+        Err(refusal) => format!("{letter},{}", refusal as u8),
+    }
+}
+
+fn quote_line(reader: &Reader, index: u32) -> String {
+    let quote = reader.quote(index);
+    let mut text = format!("Q,{}", number(&quote));
+    let quote = quote.unwrap_or_default();
+    for level in [quote.bid, quote.ask] {
+        match level {
+            Some(Level { price, size }) => {
+                let _ = write!(text, ",{price},{size}");
+            }
+            None => text.push_str(",,"),
+        }
+    }
+    text
+}
+
+fn volume_line(reader: &Reader, index: u32) -> String {
+    let volume = reader.volume(index);
+    let (sum, whole) = volume.unwrap_or((0, false));
+    format!("V,{},{sum},{}", number(&volume), u8::from(whole))
+}

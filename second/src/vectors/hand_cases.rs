@@ -1,0 +1,134 @@
+//! The calls `M`: messages made by hand, written into buffers of all kinds of room.
+
+use super::hand::{Hand, LARGEST_ROOM};
+use super::raw::{raw, raws, Raw};
+use super::read_cases::UNKNOWN;
+
+/// Every field good, with a byte of its own in every place, spare bytes too.
+fn distinct(kind: u16) -> Hand {
+    let mut plain = [0; 53];
+    for (place, byte) in plain.iter_mut().enumerate() {
+        *byte = 0xC1 + place as u8;
+    }
+    Hand {
+        kind,
+        seconds: 0x0403_0201,
+        nanoseconds: 0x1807_0605,
+        index: 0x0C0B_0A09,
+        number: 0x100F_0E0D,
+        order: 0x8817_1615_1413_1211,
+        new_order: 0x9927_2625_2423_2221,
+        id: 0xB433_3231,
+        price: 0xC837_3635,
+        volume: 0xDC3B_3A39,
+        flag: 1,
+        side: b'B',
+        letter: 0xF7,
+        plain,
+    }
+}
+
+/// This byte wherever any byte is good.
+fn filled(kind: u16, byte: u8) -> Hand {
+    let wide = u32::from_le_bytes([byte; 4]);
+    let order = u64::from_le_bytes([byte; 8]);
+    Hand {
+        kind,
+        seconds: wide,
+        nanoseconds: wide.min(999_999_999),
+        index: wide,
+        number: wide,
+        order,
+        new_order: order,
+        id: wide,
+        price: wide,
+        volume: wide.max(1),
+        flag: byte & 1,
+        side: if byte == 0 { b'S' } else { b'B' },
+        letter: byte,
+        plain: [byte; 53],
+    }
+}
+
+pub fn writes(calls: &mut Vec<u8>) {
+    for raw in raws() {
+        rooms(calls, &raw);
+        fields(calls, &raw);
+    }
+    lacking(calls);
+    for kind in UNKNOWN {
+        distinct(kind).push_call(calls, 16);
+    }
+    // A type outside the table, a bad field and no room: 3.
+    let hand = Hand {
+        nanoseconds: u32::MAX,
+        volume: 0,
+        ..distinct(0x0164)
+    };
+    hand.push_call(calls, 0);
+    hand.push_call(calls, LARGEST_ROOM);
+}
+
+fn rooms(calls: &mut Vec<u8>, raw: &Raw) {
+    let hand = distinct(raw.kind);
+    for room in [raw.size, raw.size - 1, 0, 4, LARGEST_ROOM] {
+        hand.push_call(calls, room);
+    }
+    filled(raw.kind, 0x00).push_call(calls, raw.size + 3);
+    filled(raw.kind, 0xFF).push_call(calls, raw.size + 3);
+    // A bad field and too little room: 4.
+    let bad = Hand {
+        nanoseconds: 1_000_000_000,
+        ..hand
+    };
+    bad.push_call(calls, raw.size - 1);
+    bad.push_call(calls, 0);
+}
+
+fn fields(calls: &mut Vec<u8>, raw: &Raw) {
+    let good = distinct(raw.kind);
+    let room = raw.size;
+    for nanoseconds in [999_999_999, 1_000_000_000, u32::MAX] {
+        Hand {
+            nanoseconds,
+            ..good
+        }
+        .push_call(calls, room);
+    }
+    if raw.side.is_some() {
+        for side in [b'S', 0, b'b', b'A', 0xFF] {
+            Hand { side, ..good }.push_call(calls, room);
+        }
+    }
+    if raw.flag.is_some() {
+        for flag in [0, 2, 0x30, 0x31, 0xFF] {
+            Hand { flag, ..good }.push_call(calls, room);
+        }
+    }
+    if raw.volume.is_some() {
+        for volume in [0, 0x100, 0x0100_0000] {
+            Hand { volume, ..good }.push_call(calls, room);
+        }
+    }
+}
+
+/// Fields that a type lacks are not looked at: all of them bad at once.
+fn lacking(calls: &mut Vec<u8>) {
+    for raw in raws() {
+        let good = distinct(raw.kind);
+        let hand = Hand {
+            flag: if raw.flag.is_some() { 0 } else { 0xFF },
+            side: if raw.side.is_some() { b'S' } else { 0 },
+            volume: if raw.volume.is_some() { 1 } else { 0 },
+            ..good
+        };
+        hand.push_call(calls, raw.size);
+    }
+    let bad = Hand {
+        volume: 0,
+        side: 0,
+        nanoseconds: u32::MAX,
+        ..distinct(100)
+    };
+    bad.push_call(calls, raw(100).size);
+}
