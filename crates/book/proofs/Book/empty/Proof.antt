@@ -1,0 +1,80 @@
+-- The first j places of the part are empty and no other part has changed.
+use mathlib.Core.Path.{_≡_, refl, _∙_}
+use Prim.Native.Nat.{ℕ, _≤_, _*_, _<_, _-_}
+use native.Mathlib.Omega.{arith}
+use lib.ListN.{length, length-set}
+use Rattle.places.specs.Places.{part}
+use Rattle.places.proofs.Parts.{part-other}
+use Rattle.places.proofs.Emptied.{Emptied, emptied-none, emptied-more}
+use Rattle.book.specs.State.{symbols, ordersEach, noOrder, ordersIn}
+use Rattle.book.proofs.Sizes.{orders-size}
+use borrow.Author.Needs.{needs}
+use Rattle.book.proofs.Book.empty.Statement.{statement}
+use Rattle.book.proofs.Book.empty.Tie as tie
+
+abbrev Inv-loop : tie.InvT-loop
+Inv-loop self k base none orders₀ j₀ orders j = (j ≤ ordersEach) × (length orders ≡ symbols * ordersEach) × Emptied ordersEach k noOrder orders j × ((m : ℕ) → (m ≡ k → ⊥) → part ordersEach m orders ≡ ordersIn self m)
+
+abbrev μ-loop : tie.MeasureT-loop
+μ-loop self k base none orders₀ j₀ orders j = ordersEach - j
+
+mul-base : tie.Need-mul-base Inv-loop μ-loop
+mul-base c = search needs
+
+no-order-requires : tie.Need-no-order-requires Inv-loop μ-loop
+no-order-requires c κs = search needs
+
+loop-holds : tie.Need-loop-holds Inv-loop μ-loop
+loop-holds c =
+    let s = c .before .before in
+    (omega arith, orders-size (s .args .self) _ (s .good .0), emptied-none ordersEach (s .args .k) noOrder (s .args .self .orders), λ m n. refl)
+
+add-i : tie.Need-add-i Inv-loop μ-loop
+add-i c = search needs
+
+mul-orders : tie.Need-mul-orders Inv-loop μ-loop
+mul-orders c = search needs
+
+array-set-from-orders : tie.Need-array-set-from-orders Inv-loop μ-loop
+array-set-from-orders c = search needs
+
+add-j : tie.Need-add-j Inv-loop μ-loop
+add-j c = search needs
+
+loop-less : tie.Need-loop-less Inv-loop μ-loop
+loop-less c = search needs
+
+loop-again : tie.Need-loop-again Inv-loop μ-loop
+loop-again c =
+    let a = c .before .before .before .before .args in
+    let p = c .before .loop in
+    let k-in : a .k < symbols = c .before .before .before .before .pre in
+    rw (c .before .before .before .no-order .ensures) (
+      omega arith,
+      length-set (p .orders) _ noOrder ∙ p .inv .1,
+      emptied-more ordersEach (a .k) noOrder (p .orders) (p .j) (c .loop-test .taken) (omega (arith, p .inv .1)) (p .inv .2),
+      λ m n. part-other ordersEach (a .k) (p .orders) (p .j) noOrder m (c .loop-test .taken) n ∙ p .inv .3 m n,
+    )
+
+returns : tie.Need-returns Inv-loop μ-loop
+returns c =
+    let p = c .before .loop in
+    let e : p .j ≡ ordersEach = omega arith in
+    record { heads = refl; trades = refl; empty = (rw e at (p .inv .2)); others = p .inv .3 }
+
+pub empty-spec : {M : Type 1} → statement M
+empty-spec =
+    tie.close
+    (tie.spec
+    Inv-loop
+    μ-loop
+    mul-base
+    no-order-requires
+    loop-holds
+    add-i
+    mul-orders
+    array-set-from-orders
+    add-j
+    loop-less
+    loop-again
+    returns)

@@ -1,0 +1,42 @@
+-- The head that is stored is the definition's.
+use borrow.Author.Tests.{eq-eqb, ne-eqb}
+use borrow.Author.Needs.{needs}
+use Rattle.book.proofs.Book.restart.Statement.{statement}
+use Rattle.book.proofs.Book.restart.Tie as tie
+
+mul-h : tie.Need-mul-h
+mul-h c = search needs
+
+element-copy-out-h : tie.Need-element-copy-out-h
+element-copy-out-h c = search needs
+
+mul-h-2 : tie.Need-mul-h-2
+mul-h-2 c = search needs
+
+element-set-from-h : tie.Need-element-set-from-h
+element-set-from-h c = search needs
+
+returns : tie.Need-returns
+returns c = rw (eq-eqb _ _ (c .if1 .taken))
+
+mul-h-3 : tie.Need-mul-h-3
+mul-h-3 c = search needs
+
+element-set-from-h-2 : tie.Need-element-set-from-h-2
+element-set-from-h-2 c = search needs
+
+returns-2 : tie.Need-returns-2
+returns-2 c = rw (ne-eqb _ _ (c .if1 .left))
+
+pub restart-spec : {M : Type 1} → statement M
+restart-spec =
+    tie.close
+    (tie.spec
+    mul-h
+    element-copy-out-h
+    mul-h-2
+    element-set-from-h
+    returns
+    mul-h-3
+    element-set-from-h-2
+    returns-2)

@@ -1,0 +1,95 @@
+-- Going down, the sum so far is that of the places passed, and each adds at most a volume.
+use mathlib.Core.Bool.{cond}
+use mathlib.Core.Path.{_≡_, sym, _∙_}
+use Prim.Native.Nat.{ℕ, _≤_, _<_, _+_, _*_, _-_}
+use native.Mathlib.Omega.{arith}
+use lib.ListN.{length, drop}
+use Rattle.places.specs.Places.{sumBy}
+use Rattle.places.proofs.Parts.{part-length, part-get}
+use Rattle.places.proofs.Sums.{sum-down, sum-end}
+use Rattle.places.proofs.Living.{sum-in-order}
+use Rattle.book.specs.State.{tradesEach, noTrade, tradeNumber, tradeLive, tradesIn}
+use Rattle.book.specs.Quote.{sharesIn}
+use Rattle.book.specs.declared.Trade.{Trade}
+use Rattle.book.proofs.Sizes.{trades-size}
+use borrow.Author.Needs.{needs}
+use Rattle.book.proofs.Book.shares_traded.Statement.{statement}
+use Rattle.book.proofs.Book.shares_traded.Tie as tie
+
+abbrev Inv-loop : tie.InvT-loop
+Inv-loop k self base sum₀ j₀ sum j = (j ≤ tradesEach) × (sum ≡ sumBy (λ (t : Trade). cond (t .live) (t .volume) 0) (drop j (tradesIn self k))) × (sum + j * 4294967295 ≤ tradesEach * 4294967295)
+
+abbrev μ-loop : tie.MeasureT-loop
+μ-loop k self base sum₀ j₀ sum j = j
+
+mul-base : tie.Need-mul-base Inv-loop μ-loop
+mul-base c = search needs
+
+loop-holds : tie.Need-loop-holds Inv-loop μ-loop
+loop-holds c =
+    let a = c .args in
+    let len = trades-size (a .t1) _ (c .good .0) in
+    let full : length (tradesIn (a .t1) (a .k)) ≡ tradesEach = part-length tradesEach (a .k) (a .t1 .trades) (omega arith) in
+    (omega arith, sym (sum-end (λ (t : Trade). cond (t .live) (t .volume) 0) (tradesIn (a .t1) (a .k)) tradesEach full), omega arith)
+
+sub-j : tie.Need-sub-j Inv-loop μ-loop
+sub-j c = search needs
+
+add-i : tie.Need-add-i Inv-loop μ-loop
+add-i c = search needs
+
+mul-t : tie.Need-mul-t Inv-loop μ-loop
+mul-t c = search needs
+
+element-copy-out-t : tie.Need-element-copy-out-t Inv-loop μ-loop
+element-copy-out-t c = search needs
+
+kept-volume-requires : tie.Need-kept-volume-requires Inv-loop μ-loop
+kept-volume-requires c κs = search needs
+
+cast-sum : tie.Need-cast-sum Inv-loop μ-loop
+cast-sum c = search needs
+
+add-sum : tie.Need-add-sum Inv-loop μ-loop
+add-sum c = search needs
+
+loop-less : tie.Need-loop-less Inv-loop μ-loop
+loop-less c = search needs
+
+loop-again : tie.Need-loop-again Inv-loop μ-loop
+loop-again c =
+    let a = c .before .before .before .before .args in
+    let len = trades-size (a .t1) _ (c .before .before .before .before .good .0) in
+    let full : length (tradesIn (a .t1) (a .k)) ≡ tradesEach = part-length tradesEach (a .k) (a .t1 .trades) (omega arith) in
+    let l = c .before .before .before .loop in
+    let i : ℕ = l .j - 1 in
+    let e : i + 1 ≡ l .j = omega arith in
+    let below : i < tradesEach = omega arith in
+    let d = sum-down (λ (t : Trade). cond (t .live) (t .volume) 0) (tradesIn (a .t1) (a .k)) i noTrade (omega arith) in
+    let d' = (rw (part-get tradesEach (a .k) (a .t1 .trades) i noTrade below, e) at d) in
+    (omega arith, omega (arith, c .kept-volume .ensures, d'), omega arith)
+
+returns : tie.Need-returns Inv-loop μ-loop
+returns c =
+    let a = c .before .before .args in
+    let e : c .before .loop .j ≡ 0 = omega arith in
+    (rw e at (c .before .loop .inv .1)) ∙ sym (sum-in-order tradeNumber tradeLive sharesIn (tradesIn (a .t1) (a .k)))
+
+pub shares-traded-spec : {M : Type 1} → statement M
+shares-traded-spec =
+    tie.close
+    (tie.spec
+    Inv-loop
+    μ-loop
+    mul-base
+    loop-holds
+    sub-j
+    add-i
+    mul-t
+    element-copy-out-t
+    kept-volume-requires
+    cast-sum
+    add-sum
+    loop-less
+    loop-again
+    returns)

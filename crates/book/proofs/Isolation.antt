@@ -1,0 +1,121 @@
+-- A message puts its own symbol back at its own place with the same index, so every other index is found where it was, with what was there.
+use mathlib.Core.Bool.{Bool, true, false}
+use mathlib.Core.List.{List}
+use mathlib.Core.Option.{Option, none, some}
+use mathlib.Core.Path.{_≡_, refl, sym, ap, _∙_}
+use Prim.Native.Nat.{ℕ, _<_}
+use native.Mathlib.Omega.{arith}
+use borrow.Author.Tests.{eqb-true, ltb-true, ltb-false}
+use lib.Dec.{ltb}
+use lib.ListN.{length, set, List·getD-eq-default, take, drop}
+use lib.Seq.{getD-set-same, getD-set-other}
+use Rattle.feed.specs.Reader.{Fit, fits, misfit, no-room, Act, clear, numbered, indexOf}
+use Rattle.wire.specs.Outcome.{Outcome, done, refused}
+use Rattle.wire.specs.Reading.{Read, reachOf, readOf}
+use Rattle.wire.specs.declared.Message.{Message}
+use Rattle.places.proofs.Searching.{first-passes, first-set}
+use Rattle.book.specs.State.{Symbol, View, view, hasIndex, placeOf, symbolIn, Wf}
+use Rattle.book.specs.Rules.{applyTo}
+use Rattle.book.specs.Record.{dealOf}
+use Rattle.book.specs.Step.{judged, meets, actAt, actOn, meant, stepOn, stepOf}
+use Rattle.book.specs.Walk.{moveBy, moveOf, Moves}
+use Rattle.book.specs.declared.Book.{Book}
+use Rattle.book.specs.declared.walk.Moved.{Moved}
+use Rattle.book.specs.declared.Order.{Order}
+use Rattle.book.specs.declared.acts.Effect.{Effect}
+use Rattle.book.specs.declared.acts.Deal.{Deal}
+
+-- ---- what a message never changes of its symbol
+pub record SameName (s t : Symbol) : Type 0 where
+  pub index : t .index ≡ s .index
+  pub name : t .name ≡ s .name
+  pub scale : t .scale ≡ s .scale
+
+judged-keeps : (s : Symbol) (stale below above : Bool) (x : Fit (List Order)) (d : Deal) → SameName s (judged s stale below above x d .symbol)
+unfolding judged
+judged-keeps s true below above x d = record { index = refl; name = refl; scale = refl }
+judged-keeps s false true above x d = record { index = refl; name = refl; scale = refl }
+judged-keeps s false false true x d = record { index = refl; name = refl; scale = refl }
+judged-keeps s false false false misfit d = record { index = refl; name = refl; scale = refl }
+judged-keeps s false false false no-room d = record { index = refl; name = refl; scale = refl }
+judged-keeps s false false false (fits os) d = record { index = refl; name = refl; scale = refl }
+
+pub meets-keeps : (s : Symbol) (a : Act Effect) → SameName s (meets s a .symbol)
+unfolding meets
+meets-keeps s (clear index next) = record { index = refl; name = refl; scale = refl }
+meets-keeps s (numbered index n e) = judged-keeps s (s .stale) (ltb n (s .expected)) (ltb (s .expected) n) (applyTo (s .orders) e) (dealOf e)
+
+-- ---- a symbol in a view
+pub place-within : (v : View) (index : ℕ) (s : Symbol) → symbolIn index v ≡ some s → placeOf index v < length v
+unfolding symbolIn
+place-within v index s e = go (ltb (placeOf index v) (length v)) refl
+  where
+    go : (t : Bool) → ltb (placeOf index v) (length v) ≡ t → placeOf index v < length v
+    go true q = ltb-true _ _ q
+    go false q = absurd (let y : _≡_ {A = Option Symbol} none (some s) = sym (List·getD-eq-default v none (ltb-false _ _ q)) ∙ e in let z : _≡_ {A = ℕ} 0 1 = cc in omega arith)
+
+pub index-of : (v : View) (index : ℕ) (s : Symbol) → symbolIn index v ≡ some s → s .index ≡ index
+unfolding symbolIn placeOf
+index-of v index s e = eqb-true (s .index) index (sym (ap (hasIndex index) e) ∙ first-passes (hasIndex index) v none (place-within v index s e))
+
+-- a symbol put back with its index
+module _ (v : View) (index : ℕ) (s t : Symbol) (e : symbolIn index v ≡ some s) (same : t .index ≡ s .index) where
+  abbrev after : View
+  after = set v (placeOf index v) (some t)
+
+  pub places-kept : (i : ℕ) → placeOf i after ≡ placeOf i v
+  unfolding symbolIn placeOf
+  places-kept i = first-set (hasIndex i) v (placeOf index v) (some t) none (place-within v index s e) (rw (e, same))
+
+  pub put-own : symbolIn index after ≡ some t
+  unfolding symbolIn
+  put-own = rw (places-kept index) (getD-set-same v (placeOf index v) (some t) none (place-within v index s e))
+
+  -- two indices do not share a place
+  apart : (i : ℕ) → (i ≡ index → ⊥) → placeOf i v ≡ placeOf index v → ⊥
+  unfolding symbolIn
+  apart i ne p = ne (sym (index-of v i s (rw p e)) ∙ index-of v index s e)
+
+  pub put-others : (i : ℕ) → (i ≡ index → ⊥) → symbolIn i after ≡ symbolIn i v
+  unfolding symbolIn
+  put-others i ne = rw (places-kept i) (getD-set-other v (placeOf index v) (placeOf i v) (some t) none (apart i ne))
+
+-- ---- a message
+module _ (v : View) (a : Act Effect) where
+  pub unregistered-stays : symbolIn (indexOf a) v ≡ none → actOn v a .view ≡ v
+  unfolding actOn
+  unregistered-stays e = rw e
+
+  pub own-symbol : (s : Symbol) → symbolIn (indexOf a) v ≡ some s → symbolIn (indexOf a) (actOn v a .view) ≡ some (meets s a .symbol)
+  unfolding actOn
+  own-symbol s e = rw e (put-own v (indexOf a) s (meets s a .symbol) e (meets-keeps s a .index))
+
+  -- a message for one symbol changes nothing kept for another
+  pub own-symbol-only : (i : ℕ) → (i ≡ indexOf a → ⊥) → symbolIn i (actOn v a .view) ≡ symbolIn i v
+  unfolding actOn
+  own-symbol-only i ne = go (symbolIn (indexOf a) v) refl
+    where
+      go : (x : Option Symbol) → symbolIn (indexOf a) v ≡ x → symbolIn i (actAt v (placeOf (indexOf a) v) (symbolIn (indexOf a) v) a .view) ≡ symbolIn i v
+      go none e = rw e
+      go (some s) e = rw e (put-others v (indexOf a) s (meets s a .symbol) e (meets-keeps s a .index) i ne)
+
+-- ---- what was read: a refusal touches nobody, a message its own symbol
+module _ (v : View) (d : Read) (i : ℕ) (other : (m : Message) → d .outcome ≡ done m → i ≡ indexOf (meant m) → ⊥) where
+  pub step-others : symbolIn i (stepOf v d .view) ≡ symbolIn i v
+  unfolding stepOf
+  step-others = go (d .outcome) refl
+    where
+      go : (x : Outcome Message) → d .outcome ≡ x → symbolIn i (stepOn v x .view) ≡ symbolIn i v
+      go (done m) e = own-symbol-only v (meant m) i (other m e)
+      go (refused a) e = refl
+
+-- ---- a call on bytes
+pub apply-others : (b : Book) (s : List ℕ) (at : ℕ) (r : Moved) → Wf b → Moves b s at r → (i : ℕ)
+    → ((n : ℕ) (m : Message) → reachOf (drop at s) ≡ done n → readOf (take n (drop at s)) .outcome ≡ done m → i ≡ indexOf (meant m) → ⊥)
+    → symbolIn i (view (r .book)) ≡ symbolIn i (view b)
+unfolding moveOf
+apply-others b s at r w p i other = ap (symbolIn i) (p .obeys w .next-view) ∙ go (reachOf (drop at s)) refl
+  where
+    go : (x : Outcome ℕ) → reachOf (drop at s) ≡ x → symbolIn i (moveBy x (view b) s at .view) ≡ symbolIn i (view b)
+    go (done n) e = step-others (view b) (readOf (take n (drop at s))) i (λ m f. other n m e f)
+    go (refused a) e = refl

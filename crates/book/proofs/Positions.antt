@@ -1,0 +1,39 @@
+-- Each message that a walk passes is as long as its Msg Size, and the next one starts behind it, so the position is the start and the sizes passed.
+use mathlib.Core.List.{List}
+use mathlib.Core.Path.{_≡_, refl, sym, ap, _∙_}
+use Prim.Native.Nat.{ℕ, zero, suc, _+_}
+use native.Mathlib.Omega.{arith}
+use lib.ListN.{length, take, drop}
+use lib.Seq.{take-take}
+use Rattle.wire.specs.Bytes.{value}
+use Rattle.wire.specs.Outcome.{Outcome, done, refused}
+use Rattle.wire.specs.Reading.{msgSize, reachOf}
+use Rattle.wire.proofs.Cases.{reached}
+use Rattle.places.specs.Places.{sumBy}
+use Rattle.book.specs.Walk.{landing, walkBy, walkFor, walkOf, Moves, Runs}
+use Rattle.book.specs.declared.Book.{Book}
+use Rattle.book.specs.declared.walk.Moved.{Moved}
+use Rattle.book.specs.declared.walk.Ran.{Ran}
+
+-- a message has the Msg Size that stands in the stream
+own-size : (s : List ℕ) (n : ℕ) → reachOf s ≡ done n → msgSize (take n s) ≡ n
+own-size s n e = ap value (take-take 2 n s (omega (arith, reached s n e .least))) ∙ reached s n e .size
+
+-- ---- one message moves by its Msg Size
+pub moved-by-size : (b : Book) (s : List ℕ) (at n : ℕ) (r : Moved) → Moves b s at r → reachOf (drop at s) ≡ done n → r .at ≡ at + msgSize (drop at s)
+moved-by-size b s at n r m e = m .at ∙ ap (λ (x : Outcome ℕ). landing x at) e ∙ ap (λ (k : ℕ). at + k) (sym (reached (drop at s) n e .size))
+
+-- ---- a run's position is the start plus the sum of the Msg Sizes passed
+walked : (f : ℕ) (s : List ℕ) (at : ℕ) → walkFor f s at .at ≡ at + sumBy msgSize (walkFor f s at .messages)
+unfolding walkFor sumBy
+walked zero s at = omega arith
+walked (suc f) s at = go (λ e. walked f s e) (reachOf (drop at s)) refl
+  where
+    go : ((e : ℕ) → walkFor f s e .at ≡ e + sumBy msgSize (walkFor f s e .messages)) → (x : Outcome ℕ) → reachOf (drop at s) ≡ x
+        → walkBy x s at (λ e. walkFor f s e) .at ≡ at + sumBy msgSize (walkBy x s at (λ e. walkFor f s e) .messages)
+    go ih (refused a) e = omega arith
+    go ih (done n) e = let h = ih (at + n) in let z = own-size (drop at s) n e in rw z (omega arith)
+
+pub position-is-sum : (b : Book) (s : List ℕ) (from : ℕ) (r : Ran) → Runs b s from r → r .at ≡ from + sumBy msgSize (walkOf s from .messages)
+unfolding walkOf
+position-is-sum b s from r m = m .at ∙ walked (suc (length s)) s from

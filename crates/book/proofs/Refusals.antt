@@ -1,0 +1,88 @@
+-- What a refusal does to the view is read off the clauses of the rule.
+use mathlib.Core.Bool.{Bool, true, false}
+use mathlib.Core.List.{List, [], _∷_}
+use mathlib.Core.Option.{Option, none, some}
+use mathlib.Core.Path.{_≡_, refl, sym, ap, _∙_}
+use Prim.Native.Nat.{ℕ}
+use native.Mathlib.Omega.{arith}
+use lib.Dec.{ltb}
+use lib.ListN.{set}
+use lib.Seq.{set-getD}
+use Rattle.feed.specs.Reader.{Fit, fits, misfit, no-room, Act, clear, numbered, indexOf}
+use Rattle.wire.specs.Outcome.{Outcome, done, refused}
+use Rattle.wire.specs.Reading.{Read}
+use Rattle.wire.specs.declared.Message.{Message}
+use Rattle.places.specs.Places.{among}
+use Rattle.book.specs.State.{Symbol, View, placeOf, symbolIn}
+use Rattle.book.specs.Rules.{applyTo}
+use Rattle.book.specs.Record.{dealOf}
+use Rattle.book.specs.Step.{madeStale, judged, meets, actAt, actOn, meant, stepOn, stepOf}
+use Rattle.book.specs.Promises.{unchanging}
+use Rattle.book.specs.declared.Order.{Order}
+use Rattle.book.specs.declared.acts.Effect.{Effect}
+use Rattle.book.specs.declared.acts.Deal.{Deal}
+
+never : {A : Type 0} → _≡_ {A = Bool} false true → A
+never e = absurd (let z : _≡_ {A = ℕ} 0 1 = cc in omega arith)
+
+-- ---- 1 to 6 and 8: the view is as it was
+judged-unchanged : (s : Symbol) (stale below above : Bool) (x : Fit (List Order)) (d : Deal) → unchanging (judged s stale below above x d .answer) ≡ true → judged s stale below above x d .symbol ≡ s
+unfolding judged among
+judged-unchanged s true below above x d e = refl
+judged-unchanged s false true above x d e = refl
+judged-unchanged s false false true x d e = never e
+judged-unchanged s false false false misfit d e = never e
+judged-unchanged s false false false no-room d e = never e
+judged-unchanged s false false false (fits os) d e = never e
+
+meets-unchanged : (s : Symbol) (a : Act Effect) → unchanging (meets s a .answer) ≡ true → meets s a .symbol ≡ s
+unfolding meets among
+meets-unchanged s (clear index next) e = never e
+meets-unchanged s (numbered index n f) e = judged-unchanged s (s .stale) (ltb n (s .expected)) (ltb (s .expected) n) (applyTo (s .orders) f) (dealOf f) e
+
+pub act-unchanged : (v : View) (a : Act Effect) → unchanging (actOn v a .answer) ≡ true → actOn v a .view ≡ v
+unfolding actOn symbolIn
+act-unchanged v a = go (symbolIn (indexOf a) v) refl
+  where
+    go : (x : Option Symbol) → symbolIn (indexOf a) v ≡ x → unchanging (actAt v (placeOf (indexOf a) v) x a .answer) ≡ true → actAt v (placeOf (indexOf a) v) x a .view ≡ v
+    go none q e = refl
+    go (some s) q e = ap (λ (t : Symbol). set v (placeOf (indexOf a) v) (some t)) (meets-unchanged s a e) ∙ ap (set v (placeOf (indexOf a) v)) (sym q) ∙ set-getD v (placeOf (indexOf a) v) none
+
+pub refused-view : (v : View) (d : Read) → unchanging (stepOf v d .answer) ≡ true → stepOf v d .view ≡ v
+unfolding stepOf
+refused-view v d = go (d .outcome)
+  where
+    go : (x : Outcome Message) → unchanging (stepOn v x .answer) ≡ true → stepOn v x .view ≡ v
+    go (done m) e = act-unchanged v (meant m) e
+    go (refused a) e = refl
+
+-- ---- 7, 9 and 10: the symbol becomes stale and its record loses the mark; nothing else changes
+abbrev pub makesStale : ℕ → Bool
+makesStale a = among a (7 ∷ 9 ∷ 10 ∷ [])
+
+judged-stale : (s : Symbol) (stale below above : Bool) (x : Fit (List Order)) (d : Deal) → makesStale (judged s stale below above x d .answer) ≡ true → judged s stale below above x d .symbol ≡ madeStale 7 s .symbol
+unfolding judged among
+judged-stale s true below above x d e = never e
+judged-stale s false true above x d e = never e
+judged-stale s false false true x d e = refl
+judged-stale s false false false misfit d e = refl
+judged-stale s false false false no-room d e = refl
+judged-stale s false false false (fits os) d e = never e
+
+meets-stale : (s : Symbol) (a : Act Effect) → makesStale (meets s a .answer) ≡ true → meets s a .symbol ≡ madeStale 7 s .symbol
+unfolding meets among
+meets-stale s (clear index next) e = never e
+meets-stale s (numbered index n f) e = judged-stale s (s .stale) (ltb n (s .expected)) (ltb (s .expected) n) (applyTo (s .orders) f) (dealOf f) e
+
+pub record MadeStale (v : View) (index : ℕ) (w : View) : Type 0 where
+  pub symbol : Symbol
+  pub there : symbolIn index v ≡ some symbol
+  pub next-view : w ≡ set v (placeOf index v) (some (madeStale 7 symbol .symbol))
+
+pub stale-view : (v : View) (a : Act Effect) → makesStale (actOn v a .answer) ≡ true → MadeStale v (indexOf a) (actOn v a .view)
+unfolding actOn among
+stale-view v a = go (symbolIn (indexOf a) v) refl
+  where
+    go : (x : Option Symbol) → symbolIn (indexOf a) v ≡ x → makesStale (actAt v (placeOf (indexOf a) v) x a .answer) ≡ true → MadeStale v (indexOf a) (actAt v (placeOf (indexOf a) v) x a .view)
+    go none q e = never e
+    go (some s) q e = record { symbol = s; there = q; next-view = ap (λ (t : Symbol). set v (placeOf (indexOf a) v) (some t)) (meets-stale s a e) }

@@ -1,0 +1,21 @@
+-- How long the arrays of a book are: owning one tells.
+use mathlib.Core.Path.{_≡_, sym, _∙_}
+use mathlib.Core.List.{List}
+use Prim.Native.Nat.{_*_}
+use lib.ListN.{length, length-map}
+use mir.Val.{Val}
+use denote.Laws.{Is}
+use denote.Struct.Declared.{row}
+use Rattle.book.specs.State.{symbols, ordersEach, tradesEach}
+use Rattle.book.specs.declared.Book.{Book}
+use Rattle.book.proofs.Book.{the-type}
+
+module _ (b : Book) (vs : List Val) (g : Is (row the-type) b vs) where
+  pub heads-size : length (b .heads) ≡ symbols
+  heads-size = sym (length-map (b .heads) _) ∙ g .1 .1 .0 .1 .0 .1
+
+  pub orders-size : length (b .orders) ≡ symbols * ordersEach
+  orders-size = sym (length-map (b .orders) _) ∙ g .1 .1 .1 .0 .1 .0 .1
+
+  pub trades-size : length (b .trades) ≡ symbols * tradesEach
+  trades-size = sym (length-map (b .trades) _) ∙ g .1 .1 .1 .1 .0 .1 .0 .1

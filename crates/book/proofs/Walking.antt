@@ -1,0 +1,118 @@
+-- A move goes by the Msg Size, within the bytes, so a walk has messages enough to spare; the run's loop has walked some of it and has the rest to go.
+use mathlib.Core.Bool.{Bool, true, false}
+use mathlib.Core.List.{List}
+use mathlib.Core.Path.{_≡_, refl, sym, ap, _∙_}
+use Prim.Native.Nat.{ℕ, zero, suc, _+_, _<_, _≤_}
+use native.Mathlib.Omega.{arith}
+use native.Mathlib.Nat.{not-suc-le-zero}
+use lib.ListN.{length, take, drop, length-drop}
+use Rattle.wire.specs.Outcome.{Outcome, done, refused, numberOf}
+use Rattle.wire.specs.Reading.{reachOf, readOf, decodedAs}
+use Rattle.wire.specs.declared.Decoded.{Decoded}
+use Rattle.wire.proofs.Cases.{reached}
+use Rattle.book.specs.State.{view, Wf}
+use Rattle.book.specs.Step.{stepOf}
+use Rattle.book.specs.Promises.{Steps}
+use Rattle.book.specs.Walk.{landing, stopping, moveOf, walkFor, walkOf, stepsOf, runOf, Moves, Runs}
+use Rattle.book.specs.declared.Book.{Book}
+use Rattle.book.specs.declared.Done.{Done}
+use Rattle.book.specs.declared.walk.Moved.{Moved}
+
+-- ---- one message
+module _ (b : Book) (s : List ℕ) (at : ℕ) where
+  -- a stop leaves all as it was
+  pub move-stops : (a : ℕ) → reachOf (drop at s) ≡ refused a → Moves b s at (record { book = b; at = at; answer = a; stops = true })
+  unfolding moveOf
+  move-stops a e = record {
+    at = rw e;
+    stops = rw e;
+    stopped = λ t. rw e;
+    kept = λ t. refl;
+    obeys = λ w. record { wf = w; next-view = rw e; answer = rw e };
+  }
+
+  module _ (n : ℕ) (e : reachOf (drop at s) ≡ done n) where
+    pub move-within : at + n ≤ length s
+    move-within = omega (arith, reached (drop at s) n e .least, reached (drop at s) n e .there, length-drop at s)
+
+    pub move-goes : (d : Decoded) (r : Done) → decodedAs d ≡ readOf (take n (drop at s)) → Steps b (stepOf (view b) (decodedAs d)) r → Moves b s at (record { book = r .book; at = at + n; answer = r .answer; stops = false })
+    unfolding moveOf
+    move-goes d r q p = record {
+      at = rw e;
+      stops = rw e;
+      stopped = λ t. absurd (let z : _≡_ {A = ℕ} 0 1 = cc in omega arith);
+      kept = p .kept;
+      obeys = λ w. rw (e, ← q) (p .obeys w);
+    }
+
+-- ---- the run: from here on there is so much of the walk to go
+pub record Left (s : List ℕ) (from : ℕ) (b : Book) (at : ℕ) (c : Book) : Type 0 where
+  pub fuel : ℕ
+  pub enough : length s < at + fuel
+  pub some : 0 < fuel
+  pub same-end : walkFor fuel s at .at ≡ walkOf s from .at
+  pub same-answer : walkFor fuel s at .answer ≡ walkOf s from .answer
+  pub passed : from ≤ at
+  pub still : at ≡ from → c ≡ b
+  pub sound : Wf b → Wf c
+  pub same-view : Wf b → stepsOf (view c) (walkFor fuel s at .messages) ≡ stepsOf (view b) (walkOf s from .messages)
+
+pub left-all : (s : List ℕ) (from : ℕ) (b : Book) → Left s from b from b
+unfolding walkOf
+left-all s from b = record { fuel = suc (length s); enough = omega arith; some = omega arith; same-end = refl; same-answer = refl; passed = omega arith; still = λ e. refl; sound = λ w. w; same-view = λ w. refl }
+
+module _ (s : List ℕ) (from : ℕ) (b : Book) (at : ℕ) (c : Book) (r : Moved) (m : Moves c s at r) where
+  -- whether it stopped, by what reaches from here
+  stops-by : (x : Outcome ℕ) → reachOf (drop at s) ≡ x → r .stops ≡ stopping x
+  stops-by x e = m .stops ∙ ap stopping e
+
+  pub goes-on : r .stops ≡ false → (at < r .at) × (r .at ≤ length s)
+  goes-on f = go (reachOf (drop at s)) refl
+    where
+      go : (x : Outcome ℕ) → reachOf (drop at s) ≡ x → (at < r .at) × (r .at ≤ length s)
+      go (refused a) e = absurd (let y : _≡_ {A = Bool} true false = sym (stops-by (refused a) e) ∙ f in let z : _≡_ {A = ℕ} 0 1 = cc in omega arith)
+      go (done n) e =
+          let l = reached (drop at s) n e .least in
+          let to : r .at ≡ at + n = m .at ∙ ap (λ (x : Outcome ℕ). landing x at) e in
+          (omega arith, omega (arith, move-within c s at n e))
+
+  pub left-on : r .stops ≡ false → Left s from b at c → Left s from b (r .at) (r .book)
+  unfolding walkFor stepsOf moveOf
+  left-on f l = go (reachOf (drop at s)) refl (l .fuel) (l .enough) (l .same-end) (l .same-answer) (l .same-view)
+    where
+      go : (x : Outcome ℕ) → reachOf (drop at s) ≡ x → (g : ℕ) → length s < at + g → walkFor g s at .at ≡ walkOf s from .at → walkFor g s at .answer ≡ walkOf s from .answer
+          → (Wf b → stepsOf (view c) (walkFor g s at .messages) ≡ stepsOf (view b) (walkOf s from .messages)) → Left s from b (r .at) (r .book)
+      go (refused a) e g h p q v = absurd (let y : _≡_ {A = Bool} true false = sym (stops-by (refused a) e) ∙ f in let z : _≡_ {A = ℕ} 0 1 = cc in omega arith)
+      go (done n) e zero h p q v = absurd (omega (arith, move-within c s at n e))
+      go (done n) e (suc g) h p q v =
+          let least = reached (drop at s) n e .least in
+          let to : r .at ≡ at + n = m .at ∙ ap (λ (x : Outcome ℕ). landing x at) e in
+          record {
+            fuel = g;
+            enough = omega (arith, h);
+            some = omega (arith, h, move-within c s at n e);
+            same-end = rw to (rw e at p);
+            same-answer = rw to (rw e at q);
+            passed = omega (arith, l .passed);
+            still = λ z. absurd (omega (arith, l .passed, z));
+            sound = λ w. m .obeys (l .sound w) .wf;
+            same-view = λ w. rw (to, m .obeys (l .sound w) .next-view, e) (rw e at (v w));
+          }
+
+  pub left-end : r .stops ≡ true → Left s from b at c → Runs b s from (record { book = r .book; at = r .at; answer = r .answer })
+  unfolding walkFor stepsOf moveOf runOf
+  left-end t l = go (reachOf (drop at s)) refl (l .fuel) (l .some) (l .same-end) (l .same-answer) (l .same-view)
+    where
+      go : (x : Outcome ℕ) → reachOf (drop at s) ≡ x → (g : ℕ) → 0 < g → walkFor g s at .at ≡ walkOf s from .at → walkFor g s at .answer ≡ walkOf s from .answer
+          → (Wf b → stepsOf (view c) (walkFor g s at .messages) ≡ stepsOf (view b) (walkOf s from .messages)) → Runs b s from (record { book = r .book; at = r .at; answer = r .answer })
+      go (done n) e g h p q v = absurd (let y : _≡_ {A = Bool} false true = sym (stops-by (done n) e) ∙ t in let z : _≡_ {A = ℕ} 0 1 = cc in omega arith)
+      go (refused a) e zero h p q v = absurd (not-suc-le-zero h)
+      go (refused a) e (suc g) h p q v =
+          let to : r .at ≡ at = m .at ∙ ap (λ (x : Outcome ℕ). landing x at) e in
+          let number : r .answer ≡ a = ap (λ (x : Moved). x .answer) (m .stopped t) ∙ ap (numberOf {A = ℕ}) e in
+          record {
+            at = to ∙ (rw e at p);
+            answer = number ∙ (rw e at q);
+            kept = λ z. ap (λ (x : Moved). x .book) (m .stopped t) ∙ l .still (sym to ∙ z);
+            obeys = λ w. record { wf = m .obeys (l .sound w) .wf; next-view = m .obeys (l .sound w) .next-view ∙ (rw e (rw e at (v w))); answer = number ∙ (rw e at q) };
+          }

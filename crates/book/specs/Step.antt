@@ -1,0 +1,103 @@
+-- A message meets its symbol: document 01, "Numbers answered" and "The book"; what each of the 13 typed messages means, and the step over what reading answered.
+use mathlib.Core.Bool.{Bool, true, false, cond}
+use mathlib.Core.List.{List, []}
+use mathlib.Core.Option.{Option, none, some}
+use Prim.Native.Nat.{ℕ, _+_}
+use lib.Dec.{ltb, eqb}
+use lib.ListN.{set}
+use Rattle.feed.specs.Reader.{Fit, fits, misfit, no-room, Act, clear, numbered, indexOf}
+use Rattle.wire.specs.Outcome.{Outcome, done, refused}
+use Rattle.wire.specs.Reading.{Read}
+use Rattle.wire.specs.declared.Message.{Message}
+use Rattle.book.specs.State.{Symbol, View, placeOf, symbolIn}
+use Rattle.book.specs.Rules.{applyTo}
+use Rattle.book.specs.Record.{Dealt, dealTo, dealOf, printed}
+use Rattle.book.specs.declared.Order.{Order}
+use Rattle.book.specs.declared.acts.Effect.{Effect}
+use Rattle.book.specs.declared.acts.Deal.{Deal}
+use Rattle.book.specs.declared.acts as code
+
+-- ---- one symbol: what is kept after a message, and the answer
+pub record Reply : Type 0 where
+  pub symbol : Symbol
+  pub answer : ℕ
+
+abbrev pub unchanged : ℕ → Symbol → Reply
+unchanged a s = record { symbol = s; answer = a }
+
+-- the symbol becomes stale, and the record loses its mark
+abbrev pub madeStale : ℕ → Symbol → Reply
+madeStale a s = record { symbol = record { index = s .index; name = s .name; scale = s .scale; expected = s .expected; stale = true; whole = false; orders = s .orders; trades = s .trades }; answer = a }
+
+-- the expected number is raised by one
+abbrev pub applied : Symbol → List Order → Dealt → Reply
+applied s os d = record { symbol = record { index = s .index; name = s .name; scale = s .scale; expected = s .expected + 1; stale = s .stale; whole = cond (d .lost) false (s .whole); orders = os; trades = d .trades }; answer = 0 }
+
+-- one clause for each row of "Numbers answered", the tests in the order in which document 01 checks
+--            stale  below  above  fit
+unfoldable pub judged : Symbol → Bool → Bool → Bool → Fit (List Order) → Deal → Reply
+judged s true below above x d = unchanged 8 s
+judged s false true above x d = unchanged 6 s
+judged s false false true x d = madeStale 7 s
+judged s false false false misfit d = madeStale 9 s
+judged s false false false no-room d = madeStale 10 s
+judged s false false false (fits os) d = applied s os (dealTo (s .trades) d)
+
+-- all orders go, the symbol is not stale and expects the number given; another number than the expected one loses the mark
+abbrev pub cleared : Symbol → ℕ → Reply
+cleared s next = record { symbol = record { index = s .index; name = s .name; scale = s .scale; expected = next; stale = false; whole = cond (eqb next (s .expected)) (s .whole) false; orders = []; trades = s .trades }; answer = 0 }
+
+unfoldable pub meets : Symbol → Act Effect → Reply
+meets s (clear index next) = cleared s next
+meets s (numbered index n e) = judged s (s .stale) (ltb n (s .expected)) (ltb (s .expected) n) (applyTo (s .orders) e) (dealOf e)
+
+-- ---- the eight symbols: the next view, and the answer
+pub record Next : Type 0 where
+  pub view : View
+  pub answer : ℕ
+
+abbrev pub refusing : View → ℕ → Next
+refusing v a = record { view = v; answer = a }
+
+abbrev pub put : View → ℕ → Reply → Next
+put v k r = record { view = set v k (some (r .symbol)); answer = r .answer }
+
+-- a symbol that is not registered answers 5; another one's place stays as it was
+abbrev pub actAt : View → ℕ → Option Symbol → Act Effect → Next
+actAt v k none a = refusing v 5
+actAt v k (some s) a = put v k (meets s a)
+
+unfoldable pub actOn : View → Act Effect → Next
+actOn v a = actAt v (placeOf (indexOf a) v) (symbolIn (indexOf a) v) a
+
+-- ---- what each message means
+abbrev pub buys : ℕ → Bool
+buys side = eqb side 66
+
+unfoldable pub meant : Message → Act Effect
+meant (Message.Add h n p v side) = numbered (h .index) (h .number) (Effect.Add n (buys side) p v)
+meant (Message.Modify h n p v position side) = numbered (h .index) (h .number) (Effect.Modify n (buys side) p v)
+meant (Message.Delete h n) = numbered (h .index) (h .number) (Effect.Delete n)
+meant (Message.Execute h n t p v printable) = numbered (h .index) (h .number) (Effect.Execute n v (printed printable t p v))
+meant (Message.Replace h old n p v side) = numbered (h .index) (h .number) (Effect.Replace old n (buys side) p v)
+meant (Message.Imbalance h seconds) = numbered (h .index) (h .number) (Effect.Other Deal.Nothing)
+meant (Message.NonDisplayed h t p v printable) = numbered (h .index) (h .number) (Effect.Other (printed printable t p v))
+meant (Message.Cross h cross p v class) = numbered (h .index) (h .number) (Effect.Other Deal.Nothing)
+meant (Message.TradeCancel h t) = numbered (h .index) (h .number) (Effect.Other (Deal.Cancels t))
+meant (Message.CrossCorrection h cross v) = numbered (h .index) (h .number) (Effect.Other Deal.Nothing)
+meant (Message.Retail h indicator) = numbered (h .index) (h .number) (Effect.Other Deal.Nothing)
+meant (Message.Clear h seconds) = clear (h .index) (h .number)
+meant (Message.Status h seconds) = numbered (h .index) (h .number) (Effect.Other Deal.Nothing)
+
+-- the code's word for it
+abbrev pub actedAs : code.Act.Act → Act Effect
+actedAs (code.Act.Act.Clear index next) = clear index next
+actedAs (code.Act.Act.Numbered index n e) = numbered index n e
+
+-- ---- the step: answers 1 to 4 leave all as it was
+abbrev pub stepOn : View → Outcome Message → Next
+stepOn v (done m) = actOn v (meant m)
+stepOn v (refused a) = refusing v a
+
+unfoldable pub stepOf : View → Read → Next
+stepOf v d = stepOn v (d .outcome)

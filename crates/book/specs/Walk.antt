@@ -1,0 +1,71 @@
+-- The walk over a stream: document 01, "What the bureau's reader does", answers 1 and 2. Where it goes hangs on the bytes alone.
+use Prim.Native.Nat.{ℕ, zero, suc, _+_}
+use mathlib.Core.List.{List, [], _∷_}
+use mathlib.Core.Bool.{Bool, true, false}
+use mathlib.Core.Path.{_≡_}
+use lib.ListN.{length, take, drop}
+use Rattle.wire.specs.Outcome.{Outcome, done, refused, numberOf}
+use Rattle.wire.specs.Reading.{reachOf, readOf}
+use Rattle.book.specs.State.{View, view, Wf}
+use Rattle.book.specs.Step.{Next, refusing, stepOf}
+use Rattle.book.specs.Promises.{unchanging, Obeys}
+use Rattle.book.specs.declared.Book.{Book}
+use Rattle.book.specs.declared.walk.Moved.{Moved}
+use Rattle.book.specs.declared.walk.Ran.{Ran}
+
+-- ---- one message: too few bytes or a Msg Size below 4 doesn't move and stops; a message of n bytes moves by n
+abbrev pub landing : Outcome ℕ → ℕ → ℕ
+landing (refused a) at = at
+landing (done n) at = at + n
+
+abbrev pub stopping : Outcome ℕ → Bool
+stopping (refused a) = true
+stopping (done n) = false
+
+abbrev pub moveBy : Outcome ℕ → View → List ℕ → ℕ → Next
+moveBy (refused a) v s at = refusing v a
+moveBy (done n) v s at = stepOf v (readOf (take n (drop at s)))
+
+unfoldable pub moveOf : View → List ℕ → ℕ → Next
+moveOf v s at = moveBy (reachOf (drop at s)) v s at
+
+-- ---- all of it: the messages that stand end to end from a position, where they end, and the answer there
+pub record Walk : Type 0 where
+  pub messages : List (List ℕ)
+  pub at : ℕ
+  pub answer : ℕ
+
+abbrev pub walkBy : Outcome ℕ → List ℕ → ℕ → (ℕ → Walk) → Walk
+walkBy (refused a) s at go = record { messages = []; at = at; answer = a }
+walkBy (done n) s at go = record { messages = take n (drop at s) ∷ go (at + n) .messages; at = go (at + n) .at; answer = go (at + n) .answer }
+
+-- at most f messages
+unfoldable pub walkFor : ℕ → List ℕ → ℕ → Walk
+walkFor zero s at = record { messages = []; at = at; answer = 1 }
+walkFor (suc f) s at = walkBy (reachOf (drop at s)) s at (λ e. walkFor f s e)
+
+-- a message has four bytes or more, so that there are never more messages than bytes
+unfoldable pub walkOf : List ℕ → ℕ → Walk
+walkOf s at = walkFor (suc (length s)) s at
+
+-- ---- the run: the step over each message in turn
+unfoldable pub stepsOf : View → List (List ℕ) → View
+stepsOf v [] = v
+stepsOf v (m ∷ ms) = stepsOf (stepOf v (readOf m) .view) ms
+
+unfoldable pub runOf : View → List ℕ → ℕ → Next
+runOf v s at = record { view = stepsOf v (walkOf s at .messages); answer = walkOf s at .answer }
+
+-- ---- what the calls promise. Position and stop are promised of any state
+pub record Moves (b : Book) (s : List ℕ) (from : ℕ) (r : Moved) : Type 0 where
+  pub at : r .at ≡ landing (reachOf (drop from s)) from
+  pub stops : r .stops ≡ stopping (reachOf (drop from s))
+  pub stopped : r .stops ≡ true → r ≡ record { book = b; at = from; answer = numberOf (reachOf (drop from s)); stops = true }
+  pub kept : unchanging (r .answer) ≡ true → r .book ≡ b
+  pub obeys : Wf b → Obeys (moveOf (view b) s from) (r .book) (r .answer)
+
+pub record Runs (b : Book) (s : List ℕ) (from : ℕ) (r : Ran) : Type 0 where
+  pub at : r .at ≡ walkOf s from .at
+  pub answer : r .answer ≡ walkOf s from .answer
+  pub kept : r .at ≡ from → r .book ≡ b
+  pub obeys : Wf b → Obeys (runOf (view b) s from) (r .book) (r .answer)

@@ -1,0 +1,155 @@
+// What a message does to a symbol's orders, decided on small values: the place that was found, the order there, the message.
+use crate::ORDERS;
+use crate::Order;
+use crate::acts::Deal;
+use crate::acts::Effect;
+use crate::no_order;
+ghost use mathlib.Core.Path.{_≡_};
+ghost use mathlib.Core.Bool.{true};
+ghost use mathlib.Core.List.{List};
+ghost use lib.ListN.{getD};
+ghost use Rattle.book.specs.State.{noOrder};
+ghost use Rattle.book.specs.Changes.{OrderPart, OrderAt, OrderRoom, Decides, liveOrders};
+ghost use Rattle.book.specs.Rules.{applyTo};
+
+// It fits, and this order goes to this place (ORDERS: to none); or it doesn't fit; or there is no room.
+pub(crate) enum Verdict {
+    Fits { place: usize, order: Order },
+    Misfit,
+    NoRoom,
+}
+
+// An order that is live already doesn't fit; i is where it lies, and j has room.
+pub(crate) fn judge_add(
+    i: usize,
+    j: usize,
+    order: u64,
+    buy: bool,
+    price: u32,
+    volume: u32,
+) -> Verdict
+    ensures { λ r. ⌜ ((l : List Order) → OrderPart l → OrderAt order l i → OrderRoom l j → Decides l r (applyTo (liveOrders l) (Effect.Add order buy price volume))) ⌝ }
+{
+    if i < ORDERS {
+        return Verdict::Misfit;
+    }
+    if ORDERS <= j {
+        return Verdict::NoRoom;
+    }
+    let o = Order {
+        live: true,
+        buy,
+        number: order,
+        price,
+        volume,
+    };
+    Verdict::Fits { place: j, order: o }
+}
+
+pub(crate) fn judge_modify(
+    i: usize,
+    x: Order,
+    order: u64,
+    buy: bool,
+    price: u32,
+    volume: u32,
+) -> Verdict
+    ensures { λ r. ⌜ ((l : List Order) → OrderPart l → OrderAt order l i → x ≡ getD l i noOrder → Decides l r (applyTo (liveOrders l) (Effect.Modify order buy price volume))) ⌝ }
+{
+    if ORDERS <= i {
+        return Verdict::Misfit;
+    }
+    if x.buy == buy {
+        let o = Order {
+            live: x.live,
+            buy: x.buy,
+            number: x.number,
+            price,
+            volume,
+        };
+        return Verdict::Fits { place: i, order: o };
+    }
+    Verdict::Misfit
+}
+
+pub(crate) fn judge_delete(i: usize, order: u64) -> Verdict
+    ensures { λ r. ⌜ ((l : List Order) → OrderPart l → OrderAt order l i → Decides l r (applyTo (liveOrders l) (Effect.Delete order))) ⌝ }
+{
+    if ORDERS <= i {
+        return Verdict::Misfit;
+    }
+    let o = no_order();
+    Verdict::Fits { place: i, order: o }
+}
+
+// The volume comes off at the order's own price. At zero left the order goes.
+pub(crate) fn judge_execute(i: usize, x: Order, order: u64, volume: u32) -> Verdict
+    ensures { λ r. ⌜ ((l : List Order) (d : Deal) → OrderPart l → OrderAt order l i → x ≡ getD l i noOrder → Decides l r (applyTo (liveOrders l) (Effect.Execute order volume d))) ⌝ }
+{
+    if ORDERS <= i {
+        return Verdict::Misfit;
+    }
+    if x.volume < volume {
+        return Verdict::Misfit;
+    }
+    if x.volume == volume {
+        let gone = no_order();
+        return Verdict::Fits {
+            place: i,
+            order: gone,
+        };
+    }
+    let o = Order {
+        live: x.live,
+        buy: x.buy,
+        number: x.number,
+        price: x.price,
+        volume: x.volume - volume,
+    };
+    Verdict::Fits { place: i, order: o }
+}
+
+// The old order lies at i and goes first, so the new number may lie there too.
+pub(crate) fn judge_replace(
+    i: usize,
+    x: Order,
+    j: usize,
+    old: u64,
+    order: u64,
+    buy: bool,
+    price: u32,
+    volume: u32,
+) -> Verdict
+    ensures { λ r. ⌜ ((l : List Order) → OrderPart l → OrderAt old l i → OrderAt order l j → x ≡ getD l i noOrder → Decides l r (applyTo (liveOrders l) (Effect.Replace old order buy price volume))) ⌝ }
+{
+    if ORDERS <= i {
+        return Verdict::Misfit;
+    }
+    if x.buy == buy {
+        let o = Order {
+            live: true,
+            buy,
+            number: order,
+            price,
+            volume,
+        };
+        if ORDERS <= j {
+            return Verdict::Fits { place: i, order: o };
+        }
+        if i == j {
+            return Verdict::Fits { place: i, order: o };
+        }
+        return Verdict::Misfit;
+    }
+    Verdict::Misfit
+}
+
+pub(crate) fn judge_other() -> Verdict
+    ensures { λ r. ⌜ ((l : List Order) (d : Deal) → OrderPart l → Decides l r (applyTo (liveOrders l) (Effect.Other d))) ⌝ }
+{
+    let o = no_order();
+    Verdict::Fits {
+        place: ORDERS,
+        order: o,
+    }
+}

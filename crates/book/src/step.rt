@@ -1,0 +1,99 @@
+// The step over what reading answered.
+use crate::Book;
+use crate::Done;
+use crate::SYMBOLS;
+use crate::acts::Act;
+use crate::acts::Effect;
+use crate::acts::act_of;
+use wire::Answer;
+use wire::Decoded;
+ghost use mathlib.Core.Path.{_≡_};
+ghost use lib.Dec.{ltb};
+ghost use Rattle.feed.specs.Reader.{numbered};
+ghost use Rattle.wire.specs.Reading.{decodedAs};
+ghost use Rattle.book.specs.State.{view};
+ghost use Rattle.book.specs.Changes.{turnOf};
+ghost use Rattle.book.specs.Promises.{Steps, InTurn, Settles};
+ghost use Rattle.book.specs.Step.{actOn, stepOf};
+
+impl Book {
+    pub(crate) fn step(self, d: Decoded) -> Done
+        ensures { λ r. ⌜ Steps self (stepOf (view self) (decodedAs d)) r ⌝ }
+    {
+        let a = d.answer;
+        let Answer::Message(m) = a else {
+            return Done {
+                book: self,
+                answer: wire::number_of_answer(a),
+            };
+        };
+        let act = act_of(m);
+        match act {
+            Act::Clear(index, next) => self.clear(index, next),
+            Act::Numbered(index, number, effect) => self.meet(index, number, effect),
+        }
+    }
+
+    // A numbered message: is its symbol registered, is it in its turn, and then what it does.
+    fn meet(self, index: u32, number: u32, effect: Effect) -> Done
+        ensures { λ r. ⌜ Steps self (actOn (view self) (numbered index number effect)) r ⌝ }
+    {
+        let k = self.place_of(index);
+        if SYMBOLS <= k {
+            return Done {
+                book: self,
+                answer: 5,
+            };
+        }
+        let h = self.heads[k];
+        let t = turn(h.stale, h.expected, number);
+        if t == 7 {
+            return self.make_stale(k, 7);
+        }
+        if t != 0 {
+            return Done {
+                book: self,
+                answer: t,
+            };
+        }
+        self.take(k, effect)
+    }
+
+    fn take(self, k: usize, effect: Effect) -> Done
+        requires { ⌜ InTurn self k ⌝ }
+        ensures { λ r. ⌜ Settles self k effect r ⌝ }
+    {
+        match effect {
+            Effect::Add(order, buy, price, volume) => self.add(k, order, buy, price, volume),
+            Effect::Modify(order, buy, price, volume) => self.modify(k, order, buy, price, volume),
+            Effect::Delete(order) => self.delete(k, order),
+            Effect::Execute(order, volume, deal) => self.execute(k, order, volume, deal),
+            Effect::Replace(old, order, buy, price, volume) => self.replace(
+                k,
+                old,
+                order,
+                buy,
+                price,
+                volume,
+            ),
+            Effect::Other(deal) => self.other(k, deal),
+        }
+    }
+}
+
+// Whether a number is in its turn: 0, or the answer that refuses it. Stale is tested before the number.
+fn turn(stale: bool, expected: u64, number: u32) -> u8
+    ensures { λ r. ⌜ r ≡ turnOf stale (ltb number expected) (ltb expected number) ⌝ }
+{
+    let n = number as u64;
+    if stale {
+        return 8;
+    }
+    if n < expected {
+        return 6;
+    }
+    if expected < n {
+        return 7;
+    }
+    0
+}
