@@ -1,14 +1,14 @@
 -- Each message that a walk passes is as long as its Msg Size, and the next one starts behind it, so the position is the start and the sizes passed.
-use mathlib.Core.List.{List}
+use mathlib.Core.List.{List, []}
 use mathlib.Core.Path.{_≡_, refl, sym, ap, _∙_}
-use Prim.Native.Nat.{ℕ, zero, suc, _+_}
+use Prim.Native.Nat.{ℕ, zero, suc, _+_, _≤_}
 use native.Mathlib.Omega.{arith}
-use lib.ListN.{length, take, drop}
+use lib.ListN.{length, take, drop, length-drop}
 use lib.Seq.{take-take}
 use Rattle.wire.specs.Bytes.{value}
 use Rattle.wire.specs.Outcome.{Outcome, done, refused}
 use Rattle.wire.specs.Reading.{msgSize, reachOf}
-use Rattle.wire.proofs.Cases.{reached}
+use Rattle.wire.proofs.Cases.{reached, reach-short}
 use Rattle.places.specs.Places.{sumBy}
 use Rattle.book.specs.Walk.{landing, walkBy, walkFor, walkOf, Moves, Runs}
 use Rattle.book.specs.declared.Book.{Book}
@@ -37,3 +37,8 @@ walked (suc f) s at = go (λ e. walked f s e) (reachOf (drop at s)) refl
 pub position-is-sum : (b : Book) (s : List ℕ) (from : ℕ) (r : Ran) → Runs b s from r → r .at ≡ from + sumBy msgSize (walkOf s from .messages)
 unfolding walkOf
 position-is-sum b s from r m = m .at ∙ walked (suc (length s)) s from
+
+-- ---- a start past the end is answered 1, and doesn't move
+pub past-the-end : (s : List ℕ) (at : ℕ) → length s ≤ at → walkOf s at ≡ record { messages = []; at = at; answer = 1 }
+unfolding walkOf walkFor
+past-the-end s at h = rw (reach-short (drop at s) (omega (arith, length-drop at s)))

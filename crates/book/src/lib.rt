@@ -39,7 +39,7 @@ const TRADE_PLACES: usize = SYMBOLS * TRADES;
 pub const NAME: usize = 11;
 
 // A place for an order: empty, or a live one.
-struct Order {
+pub struct Order {
     live: bool,
     buy: bool,
     number: u64,
@@ -48,7 +48,7 @@ struct Order {
 }
 
 // A place for a trade: empty, or a kept one.
-struct Trade {
+pub struct Trade {
     live: bool,
     number: u32,
     price: u32,
@@ -56,7 +56,7 @@ struct Trade {
 }
 
 // What is kept of a symbol besides its orders and trades. The name is padded with zeros.
-struct Head {
+pub struct Head {
     used: bool,
     index: u32,
     name: [u8; NAME],

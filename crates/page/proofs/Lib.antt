@@ -1,0 +1,10 @@
+pub mod Digits
+pub mod Holding
+pub mod Columns
+pub mod Lengths
+pub mod Longest
+pub mod Copying
+pub mod Cases
+pub mod Marked
+pub mod OneOutcome
+pub mod Printouts

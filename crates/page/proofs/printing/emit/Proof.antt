@@ -1,0 +1,38 @@
+-- By the room: each case is one law of laying a line.
+use mathlib.Core.Path.{_≡_, sym, _∙_}
+use native.Mathlib.Omega.{arith}
+use lib.ListN.{length, length-take}
+use denote.Ref.{now}
+use borrow.Author.Needs.{needs}
+use Rattle.wire.specs.Outcome.{done}
+use Rattle.page.specs.Held.{room, held}
+use Rattle.page.proofs.Cases.{laid-short, laid-held}
+use Rattle.page.proofs.printing.emit.Statement.{statement}
+use Rattle.page.proofs.printing.emit.Tie as tie
+
+count-requires : tie.Need-count-requires
+count-requires c κs = search needs
+
+returns : tie.Need-returns
+returns c =
+    let a = c .before .before .before .before .args in
+    sym (laid-short (held (a .l)) (now (a .out)) (omega (arith, c .before .count .ensures, c .if1 .taken)))
+
+copy-requires : tie.Need-copy-requires
+copy-requires c κs =
+    let l = c .before .before .before .before .before .args .l in
+    let long : length (l .bytes) ≡ room = search needs in
+    (omega (arith, c .before .before .count .ensures, length-take (l .len) (l .bytes), long), c .before .if1 .left)
+
+same-length : tie.Need-same-length
+same-length c = search needs
+
+returns-2 : tie.Need-returns-2
+returns-2 c =
+    let k = c .before .before .before .before .before in
+    let a = k .before .before .before .args in
+    (λ i. record { outcome = done (k .count .result); out = (c .before .before .copy .ensures) i })
+    ∙ laid-held (a .l .len) _ (a .l .bytes) (now (a .out)) (k .count .ensures) (c .before .before .before .before .if1 .left)
+
+pub emit-spec : {M : Type 1} → statement M
+emit-spec = tie.close (tie.spec count-requires returns copy-requires same-length returns-2)

@@ -1,0 +1,41 @@
+-- The line is printed by what the book tells of the symbol, which its promise gives from the view.
+use mathlib.Core.Path.{_≡_, ap, _∙_}
+use denote.Ref.{now}
+use borrow.Author.Needs.{needs}
+use Rattle.book.specs.State.{view, symbolIn}
+use Rattle.book.specs.Registering.{toldOf}
+use Rattle.book.specs.declared.symbols.Registered.{Registered}
+use Rattle.page.specs.Printing.{lineOf, Refuses, told}
+use Rattle.page.proofs.Cases.{line-refuses}
+use Rattle.page.proofs.printing.line.Statement.{statement}
+use Rattle.page.proofs.printing.line.Tie as tie
+
+index-of-requires : tie.Need-index-of-requires
+index-of-requires c κs = search needs
+
+symbol-requires : tie.Need-symbol-requires
+symbol-requires c κs = search needs
+
+line-told-requires : tie.Need-line-told-requires
+line-told-requires c κs = search needs
+
+same-length : tie.Need-same-length
+same-length c = search needs
+
+-- what the book was asked, and what it told, by its view
+asked : (k : tie.After-symbol) → toldOf (symbolIn (k .before .index-of .result) (view (k .before .before .before .args .book))) ≡ told (k .before .before .before .args .book) (k .before .before .before .args .m)
+asked k = ap (λ i. toldOf (symbolIn i (view (k .before .before .before .args .book)))) (k .before .index-of .ensures)
+
+returns : tie.Need-returns
+unfolding Refuses
+returns c =
+    let k = c .before .before .before .before in
+    let a = k .before .before .before .args in
+    let line = c .before .before .line-told .ensures in (
+      λ w. line ∙ ap (λ (s : Registered). lineOf s (a .m) (a .plain) (a .sequence) (a .second) (now (a .out))) (k .symbol .ensures .obeys w ∙ asked k),
+      λ n h e. line ∙ line-refuses (k .symbol .result) (told (a .book) (a .m)) (a .m) (a .plain) (a .sequence) (a .second) (now (a .out)) (k .symbol .ensures .answer ∙ ap (λ (s : Registered). s .answer) (asked k)) n h e,
+    )
+
+pub line-spec : {M : Type 1} → statement M
+line-spec =
+    tie.close (tie.spec index-of-requires symbol-requires line-told-requires same-length returns)

@@ -1,0 +1,5 @@
+pub mod Text
+pub mod Columns
+pub mod Held
+pub mod Printing
+pub mod Printout

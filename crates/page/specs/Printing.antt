@@ -1,0 +1,69 @@
+-- Printing a line: the type (3), the message's fields (4), the symbol (5), the second of the day (14) and the room (15), in the order of document 01's checks.
+use Prim.Native.Nat.{ℕ, _<_}
+use mathlib.Core.Path.{_≡_}
+use mathlib.Core.List.{List, _++_}
+use mathlib.Core.Bool.{Bool, true, false, cond, not}
+use lib.ListN.{length, drop}
+use lib.Dec.{ltb, eqb}
+use Rattle.wire.specs.Outcome.{Outcome, done, refused}
+use Rattle.wire.specs.Writing.{Write, refuse}
+use Rattle.wire.specs.Message.{fieldsOf, typeOf, hasBadField}
+use Rattle.wire.specs.declared.Message.{Message}
+use Rattle.book.specs.State.{view, symbolIn}
+use Rattle.book.specs.Registering.{toldOf}
+use Rattle.book.specs.declared.Book.{Book}
+use Rattle.book.specs.declared.symbols.Registered.{Registered}
+use Rattle.page.specs.Columns.{columnsOf, rendered}
+use Rattle.page.specs.declared.Printed.{Printed}
+
+-- document 01's number and value of each case
+abbrev pub printedAs : Printed → Outcome ℕ
+printedAs (Printed.Bytes n) = done n
+printedAs Printed.BadType = refused 3
+printedAs Printed.BadField = refused 4
+printedAs Printed.NoSymbol = refused 5
+printedAs Printed.BadSecond = refused 14
+printedAs Printed.NoRoom = refused 15
+
+-- what printing answers, and what it leaves in the buffer
+abbrev pub printed : Printed → List ℕ → Write
+printed p out = record { outcome = printedAs p; out = out }
+
+-- only an add (100) and a cross (111) have a line
+unfoldable pub hasNoLine : ℕ → Bool
+hasNoLine type = cond (eqb type 100) false (not (eqb type 111))
+
+abbrev pub lastSecond : ℕ
+lastSecond = 86399
+
+-- is the buffer shorter than the line?
+abbrev pub laidIf : Bool → List ℕ → List ℕ → Write
+laidIf true line out = refuse 15 out
+laidIf false line out = record { outcome = done (length line); out = line ++ drop (length line) out }
+
+unfoldable pub laid : List ℕ → List ℕ → Write
+laid line out = laidIf (ltb (length out) (length line)) line out
+
+-- one clause for each check: has the type no line, a field a fault, is the symbol known, the second past the day?
+unfoldable pub lineBy : Bool → Bool → Bool → Bool → List ℕ → List ℕ → Write
+lineBy true bad known late line out = refuse 3 out
+lineBy false true known late line out = refuse 4 out
+lineBy false false false late line out = refuse 5 out
+lineBy false false true true line out = refuse 14 out
+lineBy false false true false line out = laid line out
+
+-- the line of a message at the start of out, by what is told of its symbol
+unfoldable pub lineOf : Registered → Message → List ℕ → ℕ → ℕ → List ℕ → Write
+lineOf s m plain sequence second out =
+    lineBy (hasNoLine (typeOf m)) (hasBadField m) (eqb (s .answer) 0) (ltb lastSecond second) (rendered (columnsOf s m plain sequence second)) out
+
+-- what a book tells of a message's symbol
+abbrev pub indexOf : Message → ℕ
+indexOf m = fieldsOf m .index
+
+abbrev pub told : Book → Message → Registered
+told b m = toldOf (symbolIn (indexOf m) (view b))
+
+-- 3, 4, 5 and 14 hang on no name and no scale: what is refused so is refused of any book
+unfoldable pub Refuses : Write → List ℕ → Write → Type 0
+Refuses line out w = (k : ℕ) → k < 15 → line .outcome ≡ refused k → w ≡ refuse k out

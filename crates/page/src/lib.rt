@@ -1,0 +1,54 @@
+// The page: the TAQ lines of an add (100) and a cross (111), and what the program prints, into a lent buffer.
+//
+// Every promise is an equation with a definition of specs/, where document 01's rules stand. No public function asks anything of its caller.
+mod lines;
+mod printing;
+mod printout;
+mod text;
+
+pub use printing::line;
+pub use printout::end_text;
+pub use printout::passed_text;
+pub use printout::quote_text;
+ghost use mathlib.Core.Path.{_≡_};
+ghost use Rattle.wire.specs.Outcome.{numberOf};
+ghost use Rattle.wire.specs.Writing.{countOf};
+ghost use Rattle.page.specs.Printing.{printedAs};
+
+// What printing a line answers: how many bytes, or why none.
+pub enum Printed {
+    Bytes(usize),
+    BadType,
+    BadField,
+    NoSymbol,
+    BadSecond,
+    NoRoom,
+}
+
+// Document 01's number of what printing answered.
+pub fn number_of_line(p: Printed) -> u8
+    ensures { λ r. ⌜ r ≡ numberOf (printedAs p) ⌝ }
+{
+    match p {
+        Printed::Bytes(_) => 0,
+        Printed::BadType => 3,
+        Printed::BadField => 4,
+        Printed::NoSymbol => 5,
+        Printed::BadSecond => 14,
+        Printed::NoRoom => 15,
+    }
+}
+
+// How many bytes were printed: none when refused.
+pub fn count_of_line(p: Printed) -> usize
+    ensures { λ r. ⌜ r ≡ countOf (printedAs p) ⌝ }
+{
+    match p {
+        Printed::Bytes(n) => n,
+        Printed::BadType => 0,
+        Printed::BadField => 0,
+        Printed::NoSymbol => 0,
+        Printed::BadSecond => 0,
+        Printed::NoRoom => 0,
+    }
+}

@@ -1,0 +1,119 @@
+// Printing a line into a lent buffer.
+use crate::Printed;
+use crate::lines::line_of;
+use crate::text::Line;
+use crate::text::ROOM;
+use crate::text::count;
+use book::Book;
+use book::Registered;
+use wire::Message;
+use wire::PLAIN;
+ghost use mathlib.Core.Path.{_≡_};
+ghost use mathlib.Core.List.{_++_};
+ghost use Prim.Native.Nat.{_≤_};
+ghost use lib.ListN.{length, take, drop};
+ghost use Rattle.book.specs.State.{Wf};
+ghost use Rattle.page.specs.Held.{held, room};
+ghost use Rattle.page.specs.Printing.{printed, hasNoLine, laid, lineOf, Refuses, indexOf, told};
+
+// The last second of a day.
+const LAST_SECOND: u32 = 86399;
+
+// Prints the line of a message with its byte array to the start of out. The caller gives the feed's sequence number and the local second of the day.
+// Refused, it leaves every byte of out.
+pub fn line(
+    book: Book,
+    m: Message,
+    plain: [u8; PLAIN],
+    sequence: u32,
+    second: u32,
+    out: &mut [u8],
+) -> Printed
+    ensures prints { λ r. ⌜ (Wf book → printed r (now (out .exit)) ≡ lineOf (told book m) m plain sequence second (now (out .entry))) ⌝ }
+    ensures refuses { λ r. ⌜ Refuses (lineOf (told book m) m plain sequence second (now (out .entry))) (now (out .entry)) (printed r (now (out .exit))) ⌝ }
+{
+    let s = book.symbol(index_of(m));
+    line_told(s, m, plain, sequence, second, out)
+}
+
+// The same, by what is told of the message's symbol: 3, 4, 5, 14, 15.
+fn line_told(
+    s: Registered,
+    m: Message,
+    plain: [u8; PLAIN],
+    sequence: u32,
+    second: u32,
+    out: &mut [u8],
+) -> Printed
+    ensures { λ r. ⌜ printed r (now (out .exit)) ≡ lineOf s m plain sequence second (now (out .entry)) ⌝ }
+{
+    let answer = s.answer;
+    if has_no_line(wire::type_of(m)) {
+        return Printed::BadType;
+    }
+    if wire::has_bad_field(m) {
+        return Printed::BadField;
+    }
+    if answer != 0 {
+        return Printed::NoSymbol;
+    }
+    if LAST_SECOND < second {
+        return Printed::BadSecond;
+    }
+    emit(line_of(s, m, plain, sequence, second), out)
+}
+
+pub(crate) fn has_no_line(number: u16) -> bool
+    ensures { λ r. ⌜ r ≡ hasNoLine number ⌝ }
+{
+    if number == 100 {
+        return false;
+    }
+    number != 111
+}
+
+// A line to the start of out, where there is room for it.
+pub(crate) fn emit(l: Line, out: &mut [u8]) -> Printed
+    ensures { λ r. ⌜ printed r (now (out .exit)) ≡ laid (held l) (now (out .entry)) ⌝ }
+{
+    let bytes = l.bytes;
+    let n = count(l);
+    if out.len() < n {
+        return Printed::NoRoom;
+    }
+    copy(out, bytes, n);
+    Printed::Bytes(n)
+}
+
+// The first n bytes over those of out.
+fn copy(out: &mut [u8], bytes: [u8; ROOM], n: usize)
+    requires { ⌜ (n ≤ room) × (n ≤ length (now out)) ⌝ }
+    ensures { λ _. ⌜ now (out .exit) ≡ take n bytes ++ drop n (now (out .entry)) ⌝ }
+{
+    let mut i = 0;
+    while i < n {
+        out[i] = bytes[i];
+        i += 1;
+    }
+}
+
+// The symbol index of a message.
+pub(crate) fn index_of(m: Message) -> u32
+    ensures { λ r. ⌜ r ≡ indexOf m ⌝ }
+{
+    match m {
+        Message::Add { head, .. } => head.index,
+        Message::Modify { head, .. } => head.index,
+        Message::Delete { head, .. } => head.index,
+        Message::Execute { head, .. } => head.index,
+        Message::Replace { head, .. } => head.index,
+        Message::Imbalance { head, .. } => head.index,
+        Message::NonDisplayed { head, .. } => head.index,
+        Message::Cross { head, .. } => head.index,
+        Message::TradeCancel { head, .. } => head.index,
+        Message::CrossCorrection { head, .. } => head.index,
+        Message::Retail { head, .. } => head.index,
+        Message::Clear { head, .. } => head.index,
+        Message::Status { head, .. } => head.index,
+    }
+}

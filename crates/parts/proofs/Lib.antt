@@ -1,0 +1,6 @@
+pub mod Carrying
+pub mod More
+pub mod Walks
+pub mod Cuts
+pub mod FullParts
+pub mod Opening

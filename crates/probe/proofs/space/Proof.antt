@@ -1,0 +1,12 @@
+-- The length of a repeat is its count.
+use mathlib.Core.Path.{sym}
+use Prim.Native.Nat.{ℕ}
+use lib.ListN.{length-replicate}
+use Rattle.probe.proofs.space.Statement.{statement}
+use Rattle.probe.proofs.space.Tie as tie
+
+returns : tie.Need-returns
+returns c = sym (length-replicate {0} {A = ℕ} 1048577 0)
+
+pub space-spec : {M : Type 1} → statement M
+space-spec = tie.close (tie.spec returns)
