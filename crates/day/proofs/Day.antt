@@ -1,0 +1,44 @@
+-- Each row of the day holds by computation, and the calls' promises cite the rules that were computed.
+use mathlib.Core.List.{List, [], _∷_}
+use mathlib.Core.Path.{refl, ap, _∙_}
+use Rattle.wire.specs.Bytes.{value, digits}
+use Rattle.wire.specs.Table.{shapeOf}
+use Rattle.wire.specs.Fields.{faultBy, faultOf}
+use Rattle.wire.specs.Reading.{reachBy, reachOf, readBy, readBody, readSized, readShape, readTyped, readReached, readOf}
+use Rattle.places.specs.Places.{first, fold, sumBy, insert, remove, look}
+use Rattle.book.specs.State.{View, placeOf, symbolIn, vacancyOf}
+use Rattle.book.specs.Rules.{applyTo}
+use Rattle.book.specs.Record.{dealTo}
+use Rattle.book.specs.Registering.{nameBad, registerOf}
+use Rattle.book.specs.Quote.{bestStep, sharesAt, levelOf, quoteOf}
+use Rattle.book.specs.Step.{judged, meets, actOn, meant, stepOf}
+use Rattle.book.specs.Walk.{moveOf, stepsOf}
+use Rattle.demands.specs.Messages.{index}
+use Rattle.demands.proofs.Starting.{began-wf}
+use Rattle.demands.proofs.Demand3.{reads-after}
+use Rattle.demands.proofs.Examples.{has-began, has-view}
+use Rattle.day.specs.Rows.{Row, resultOf, Holds, Shown, AllRows, rows}
+
+-- what the calls hand back is what the rules say
+by-calls : (r : Row) → Holds r → Shown r
+unfolding moveOf
+by-calls r h = record {
+  by-calls = λ p reads moves.
+      let a = reads-after (began-wf (has-began p)) reads in
+      let o = moves .obeys (a .sound) in
+      let before = a .seen ∙ ap (λ (v : View). stepsOf v (r .after)) (has-view p) in
+      (λ i. record { answer = o .answer i; moves = moves .at i; quote = quoteOf index (o .next-view i) })
+      ∙ ap (λ (v : View). resultOf v (r .bytes)) before ∙ h;
+}
+
+all-by-calls : (rs : List Row) → AllRows Holds rs → AllRows Shown rs
+all-by-calls [] h = tt
+all-by-calls (r ∷ rs) h = (by-calls r (h .0), all-by-calls rs (h .1))
+
+by-rule : AllRows Holds rows
+unfolding value digits shapeOf faultBy faultOf reachBy reachOf readBy readBody readSized readShape readTyped readReached readOf first fold sumBy insert remove look placeOf symbolIn vacancyOf applyTo dealTo nameBad registerOf bestStep sharesAt levelOf quoteOf judged meets actOn meant stepOf moveOf stepsOf
+by-rule = (refl, (refl, (refl, (refl, (refl, (refl, (refl, (refl, (refl, (refl, (refl, (refl, (refl, tt)))))))))))))
+
+-- THE DAY
+pub day : AllRows Shown rows
+day = all-by-calls rows by-rule

@@ -1,0 +1,97 @@
+-- Demand 2: the laws of the book, brought to the states that the calls hand back.
+use Prim.Native.Nat.{ℕ, _+_}
+use native.Mathlib.Omega.{arith}
+use mathlib.Core.Bool.{Bool, true, false}
+use mathlib.Core.List.{List, [], _∷_}
+use mathlib.Core.Option.{Option, none, some}
+use mathlib.Core.Path.{_≡_, refl, sym, ap, _∙_}
+use lib.ListN.{take, drop}
+use Rattle.wire.specs.Outcome.{Outcome, done}
+use Rattle.wire.specs.Reading.{readOf}
+use Rattle.wire.specs.declared.Head.{Head}
+use Rattle.wire.specs.declared.Message.{Message}
+use Rattle.wire.proofs.RoundTrip.{read-what-was-written, write-what-was-read}
+use Rattle.book.specs.State.{Symbol, View, view, symbolIn}
+use Rattle.book.specs.Quote.{quoted, quoteOf}
+use Rattle.book.specs.Step.{Next, buys, actOn, meant, stepOn, stepOf}
+use Rattle.book.specs.Walk.{moveBy, moveOf, walkOf, stepsOf, runOf, Moves, Runs}
+use Rattle.book.specs.Reached.{Reached}
+use Rattle.book.specs.declared.Book.{Book}
+use Rattle.book.specs.declared.quote.Level.{Level}
+use Rattle.book.specs.declared.walk.Moved.{Moved}
+use Rattle.book.specs.declared.walk.Ran.{Ran}
+use Rattle.book.proofs.Holding.{at-most-64, one-live}
+use Rattle.book.proofs.Isolation.{step-others, apply-others}
+use Rattle.book.proofs.Positions.{position-is-sum}
+use Rattle.book.proofs.Levels.{sideOf, exact-sum, best-price, case-d}
+use Rattle.book.proofs.Reaching.{reached-wf}
+use Rattle.demands.specs.Demand2.{OfSymbol, OfMessage, AllNotFor, OfRun, Demand2, RoundTrips}
+use Rattle.demands.specs.Demand3.{StandsAt, quoteIn}
+
+-- a message that stands there and is read is one act
+stands-acts : (v : View) {s : List ℕ} {at : ℕ} {m : List ℕ} {x : Message} → StandsAt s at m → readOf m .outcome ≡ done x → moveOf v s at ≡ actOn v (meant x)
+unfolding moveOf stepOf
+stands-acts v {s = s} {at = at} t e =
+    ap (λ (o : Outcome ℕ). moveBy o v s at) (t .reaches)
+    ∙ ap (λ (b : List ℕ). stepOn v (readOf b .outcome)) (t .bytes)
+    ∙ ap (stepOn v) e
+
+-- what is quoted at a price is of a registered symbol
+record Quoted (index : ℕ) (v : View) : Type 0 where
+  pub symbol : Symbol
+  pub there : symbolIn index v ≡ some symbol
+
+is-quoted : (buy : Bool) (index : ℕ) (v : View) (p n : ℕ) → sideOf buy (quoteOf index v) ≡ Level.Best p n → Quoted index v
+unfolding quoteOf
+is-quoted buy index v p n q = go (symbolIn index v) refl buy q
+  where
+    go : (x : Option Symbol) → symbolIn index v ≡ x → (side : Bool) → sideOf side (quoted x) ≡ Level.Best p n → Quoted index v
+    go none e true z = absurd (let o : _≡_ {A = ℕ} 0 1 = cc in omega arith)
+    go none e false z = absurd (let o : _≡_ {A = ℕ} 0 1 = cc in omega arith)
+    go (some s) e side z = record { symbol = s; there = e }
+
+steps-others : (index : ℕ) (ms : List (List ℕ)) (v : View) → AllNotFor index ms → symbolIn index (stepsOf v ms) ≡ symbolIn index v
+unfolding stepsOf
+steps-others index [] v other = refl
+steps-others index (m ∷ ms) v other = steps-others index ms (stepOf v (readOf m) .view) (other .1) ∙ step-others v (readOf m) index (other .0)
+
+module _ {b : Book} (p : Reached b) where
+  add-raises : {s : List ℕ} {at : ℕ} {m : List ℕ} {r : Moved} → Moves b s at r
+      → (head : Head) (order price volume side size : ℕ) → StandsAt s at m → readOf m .outcome ≡ done (Message.Add head order price volume side) → r .answer ≡ 0
+      → sideOf (buys side) (quoteIn b (head .index)) ≡ Level.Best price size → sideOf (buys side) (quoteIn (r .book) (head .index)) ≡ Level.Best price (size + volume)
+  unfolding meant
+  add-raises m head order price volume side size t e z q =
+      let o = m .obeys (reached-wf p) in
+      let acts = stands-acts (view b) t e in
+      let is = is-quoted (buys side) (head .index) (view b) price size q in
+      ap (λ (v : View). sideOf (buys side) (quoteOf (head .index) v)) (o .next-view ∙ ap (λ (x : Next). x .view) acts)
+      ∙ case-d (buys side) (view b) (head .index) (head .number) order price volume size (is .symbol) (is .there) q (sym (o .answer ∙ ap (λ (x : Next). x .answer) acts) ∙ z)
+
+  of-symbol : (index : ℕ) (s : Symbol) → symbolIn index (view b) ≡ some s → OfSymbol b index s
+  of-symbol index s e = record {
+    exact-sum = λ buy price size. exact-sum buy (view b) index s price size e;
+    best-price = λ buy price size. best-price buy (view b) index s price size e;
+    one-live = one-live b index s e (reached-wf p);
+    at-most-64 = at-most-64 b index s e;
+  }
+
+  of-message : {s : List ℕ} {at : ℕ} {r : Moved} → Moves b s at r → OfMessage b s at r
+  of-message {s = s} {at = at} {r = r} m = record {
+    effects = m .obeys (reached-wf p);
+    case-d = add-raises m;
+    others-unchanged = λ index other. apply-others b s at r (reached-wf p) m index (λ n x e f. other (take n (drop at s)) (record { size = n; reaches = e; bytes = refl }) x f);
+  }
+
+  of-run : {s : List ℕ} {from : ℕ} {r : Ran} → Runs b s from r → OfRun b s from r
+  unfolding runOf
+  of-run {s = s} {from = from} {r = r} m = record {
+    effects = m .obeys (reached-wf p);
+    position = position-is-sum b s from r m;
+    others-unchanged = λ index other. ap (symbolIn index) (m .obeys (reached-wf p) .next-view) ∙ steps-others index (walkOf s from .messages) (view b) other;
+  }
+
+  pub demand-2-holds : Demand2 b
+  demand-2-holds = record { symbols = of-symbol; messages = of-message; runs = of-run }
+
+pub round-trips : RoundTrips
+round-trips = record { read-what-was-written = read-what-was-written; write-what-was-read = write-what-was-read }

@@ -1,0 +1,110 @@
+-- Demand 3 for the reader that is built: a call leaves the view that the rule says, the rule is a reader of `feed`, and for readers of `feed` demand 3 is proved.
+use mathlib.Core.List.{List}
+use mathlib.Core.Path.{_≡_, refl, sym, ap, _∙_}
+use Prim.Native.Nat.{ℕ}
+use Rattle.wire.specs.Outcome.{Outcome}
+use Rattle.wire.specs.Reading.{readOf}
+use Rattle.feed.specs.Reader.{indexOf, quote}
+use Rattle.feed.specs.Feed.{phase, first, second}
+use Rattle.feed.specs.Demand3 as feed
+use Rattle.feed.proofs.Demand3.{demand-3}
+use Rattle.book.specs.State.{View, view, Wf}
+use Rattle.book.specs.Step.{Next, actOn, stepOf}
+use Rattle.book.specs.Quote.{quoteOf}
+use Rattle.book.specs.Walk.{moveBy, moveOf, stepsOf, runOf}
+use Rattle.book.specs.declared.Book.{Book}
+use Rattle.demands.specs.Reader.{pillar, asQuote}
+use Rattle.demands.specs.ByteFeed.{ByteFeed, hears, sent, delivered, actIn, feedOf}
+use Rattle.demands.specs.Demand3.{Reads, nothing, applies, refuses, runs, RunsOver, ran, Given, Demand3, quoteIn}
+use Rattle.demands.proofs.Reader.{reader, quotes-kept}
+use Rattle.demands.proofs.Starting.{began-wf}
+use Rattle.demands.proofs.Laying.{AllWhole, sent-whole, delivered-whole, walks-messages}
+use Rattle.demands.proofs.Moments.{given-at}
+use Rattle.demands.proofs.Refused.{refused-changes-nothing, counted-steps, all-count}
+use Rattle.demands.proofs.Translating.{steps-join, steps-last, first-steps, second-steps, heard-acts, is-registered, given-feed}
+
+-- ---- the state after some messages, by the calls' promises
+pub record After (b : Book) (ms : List (List ℕ)) (r : Book) : Type 0 where
+  pub sound : Wf r
+  pub seen : view r ≡ stepsOf (view b) ms
+
+pub reads-after : {b r : Book} {ms : List (List ℕ)} → Wf b → Reads b ms r → After b ms r
+unfolding stepsOf moveOf runOf
+reads-after w nothing = record { sound = w; seen = refl }
+reads-after {b = b} w (applies {ms = ms} {c = c} {s = s} {at = at} {m = m} p stands moves) =
+    let a = reads-after w p in
+    let o = moves .obeys (a .sound) in
+    record {
+      sound = o .wf;
+      seen = o .next-view
+          ∙ ap (λ (x : Outcome ℕ). moveBy x (view c) s at .view) (stands .reaches)
+          ∙ (λ i. stepOf (a .seen i) (readOf (stands .bytes i)) .view)
+          ∙ sym (steps-last (view b) ms m);
+    }
+reads-after w (refuses p moves least most) =
+    let a = reads-after w p in
+    let same = refused-changes-nothing moves least most in
+    record { sound = rw same (a .sound); seen = rw same (a .seen) }
+reads-after {b = b} w (runs {ms = ms} {ns = ns} {c = c} p run counted) =
+    let a = reads-after w p in
+    let o = run .obeys (a .sound) in
+    record { sound = o .wf; seen = o .next-view ∙ counted-steps counted ∙ ap (λ (v : View). stepsOf v ns) (a .seen) ∙ sym (steps-join (view b) ms ns) }
+
+-- ---- any way of giving a reader whole messages that leaves the view that the rule says
+abbrev Faithful : (Book → List (List ℕ) → Book → Type 0) → Type 0
+Faithful Takes = (b : Book) (ms : List (List ℕ)) (r : Book) → Wf b → AllWhole ms → Takes b ms r → view r ≡ stepsOf (view b) ms
+
+module _ (Takes : Book → List (List ℕ) → Book → Type 0) (faithful : Faithful Takes) (b c : Book) where
+  module _ {f : ByteFeed} (g : Given b c f) where
+    first-quotes : {r : Book} → Takes b (sent f) r → (index : ℕ) → quoteIn r index ≡ asQuote (quote pillar reader (first pillar reader (view b) (feedOf f)) index)
+    first-quotes {r = r} t index =
+        ap (quoteOf index) (faithful b (sent f) r (began-wf (g .first-began)) (sent-whole f (g .whole)) t ∙ first-steps (view b) f (g .applied))
+        ∙ quotes-kept (first pillar reader (view b) (feedOf f)) index
+
+    second-view : {r : Book} → Takes c (delivered f) r → view r ≡ second pillar reader (view c) (feedOf f)
+    second-view {r = r} t = faithful c (delivered f) r (began-wf (g .second-began)) (delivered-whole f (g .whole)) t ∙ second-steps (view b) (view c) f (g .applied)
+
+    second-quotes : {r : Book} → Takes c (delivered f) r → (index : ℕ) → quoteIn r index ≡ asQuote (quote pillar reader (second pillar reader (view c) (feedOf f)) index)
+    second-quotes {r = r} t index =
+        ap (quoteOf index) (second-view t)
+        ∙ quotes-kept (second pillar reader (view c) (feedOf f)) index
+
+    answers-next : {r : Book} → Takes c (delivered f) r → (m : List ℕ) → Given b c (hears f m) → stepOf (view r) (readOf m) .answer ≡ feed.answered (phase (indexOf (actIn m)) (feedOf f)) (actIn m)
+    unfolding feedOf
+    answers-next {r = r} t m h =
+        ap (λ (x : Next). x .answer) (heard-acts (view b) f m (h .applied) (view r)) ∙ ap (λ (v : View). actOn v (actIn m) .answer) (second-view t)
+        ∙ demand-3 pillar reader (view b) (view c) .answers (given-feed b c (hears f m) h)
+
+  abbrev of-views : feed.Demand3 pillar reader (view b) (view c)
+  of-views = demand-3 pillar reader (view b) (view c)
+
+  pub demanded : Demand3 Takes b c
+  unfolding asQuote
+  demanded f _ _ n =
+      let given = given-feed b c f (n .given) in
+      let now = first-quotes (n .given) (n .all) in
+      let heard = second-quotes (n .given) (n .rest) in
+      record {
+        nothing-lost = λ index l. heard index ∙ ap asQuote (of-views .nothing-lost index given l) ∙ sym (now index);
+        quotes-the-book = λ index y l. heard index ∙ ap asQuote (of-views .quotes-the-book index given (is-registered (view b) index y) l);
+        first-quotes-the-book = λ index y. now index ∙ ap asQuote (of-views .first-quotes-the-book index given (is-registered (view b) index y));
+        after-a-loss = λ index m before l. heard index ∙ ap asQuote (of-views .after-a-loss index given l) ∙ sym (first-quotes (given-at b c m (n .given)) before index);
+        refused-until-a-clear = λ index u. heard index ∙ ap asQuote (of-views .refused-until-a-clear index given u);
+        from-that-clear-on = λ index s. heard index ∙ ap asQuote (of-views .from-that-clear-on index given s) ∙ sym (now index);
+        answers = answers-next (n .given) (n .rest);
+      }
+
+-- DEMAND 3, over views,
+pub demand-3-over-views : (v w : View) → feed.Demand3 pillar reader v w
+demand-3-over-views = demand-3 pillar reader
+
+-- for readers that are given the feed by any calls,
+pub demand-3-holds : (b c : Book) → Demand3 Reads b c
+demand-3-holds = demanded Reads (λ b ms r w a p. reads-after w p .seen)
+
+-- and from bytes: each is one run over the messages laid end to end
+run-reads : {b r : Book} {ms : List (List ℕ)} → AllWhole ms → RunsOver b ms r → Reads b ms r
+run-reads {b = b} {ms = ms} a (ran p) = runs {ns = ms} nothing p (rw (walks-messages ms a) (all-count (view b) ms))
+
+pub demand-3-from-bytes : (b c : Book) → Demand3 RunsOver b c
+demand-3-from-bytes = demanded RunsOver (λ b ms r w a p. reads-after w (run-reads a p) .seen)

@@ -1,0 +1,134 @@
+-- What demand 3 takes as given can be met: the feeds of the examples are applied without a refusal, by computation, and the code's own promises make the states.
+use mathlib.Core.Bool.{Bool, true, false}
+use mathlib.Core.Logic.{_↔_}
+use mathlib.Core.Path.{_≡_, refl, ap, _∙_}
+use Prim.Native.Nat.{ℕ, _+_, _≤_}
+use native.Mathlib.Omega.{arith}
+use borrow.Author.Tests.{lt-ltb}
+use lib.Dec.{eqb}
+use Rattle.wire.specs.Bytes.{value, digits}
+use Rattle.wire.specs.Table.{shapeOf}
+use Rattle.wire.specs.Fields.{faultBy, faultOf}
+use Rattle.wire.specs.Reading.{reachBy, reachOf, readBy, readBody, readSized, readShape, readTyped, readReached, readOf}
+use Rattle.feed.specs.Reader.{numbered}
+use Rattle.places.specs.Places.{first, among, fold, sumBy, insert, remove, look}
+use Rattle.book.specs.State.{Symbol, View, view, placeOf, symbolIn, vacancyOf, Fresh}
+use Rattle.book.specs.Rules.{applyTo}
+use Rattle.book.specs.Record.{dealTo}
+use Rattle.book.specs.Registering.{nameBad, newSymbol, registerOf}
+use Rattle.book.specs.Step.{judged, meets, put, actOn, meant, stepOf}
+use Rattle.book.specs.Quote.{bestStep, sharesAt, levelOf, quoteOf}
+use Rattle.book.specs.Walk.{stepsOf}
+use Rattle.book.specs.Changes.{withHead}
+use Rattle.book.specs.declared.Book.{Book}
+use Rattle.book.proofs.Acting.{changes}
+use Rattle.book.proofs.Beginning.{fresh}
+use Rattle.book.proofs.Registering.{newHead, registers}
+use Rattle.demands.specs.Reader.{Effect, Registered}
+use Rattle.demands.specs.ByteFeed.{ByteFeed, sent, delivered, Whole, Applied, ClearsDelivered}
+use Rattle.demands.specs.Demand3.{Began, Given}
+use Rattle.demands.specs.Demand3 as began
+use Rattle.demands.specs.Examples.{name, scale, HasABC, registered, viewABC, other, viewABCThenXYZ, viewXYZThenABC, withLosses, quotesAlong, alongLosses, last, pastTheLast, lastLost}
+use Rattle.demands.specs.Messages.{index}
+
+pub has-began : {b : Book} → HasABC b → Began b
+has-began (registered f s) = began.registers index name scale (began.new f) s
+
+pub has-view : {b : Book} → HasABC b → view b ≡ viewABC
+has-view (registered f s) = s .obeys (f .wf) .next-view ∙ ap (λ (v : View). registerOf v index name scale .view) (f .new-view)
+
+-- what is left to be seen of a feed
+pub record Fair (v : View) (f : ByteFeed) : Type 0 where
+  pub whole : Whole f
+  pub applied : Applied v f
+  pub clears : ClearsDelivered f
+
+met : {b c : Book} (v w : View) (f : ByteFeed) → Fair v f → ((i : ℕ) → Registered i v ↔ Registered i w) → Began b → Began c → view b ≡ v → view c ≡ w → Given b c f
+met v w f x same p q e d = record {
+  first-began = p;
+  second-began = q;
+  same-symbols = λ i. rw (e, d) (same i);
+  whole = x .whole;
+  applied = rw e (x .applied);
+  clears-delivered = x .clears;
+}
+
+met-by-ABC : {b c : Book} (f : ByteFeed) → Fair viewABC f → HasABC b → HasABC c → Given b c f
+met-by-ABC f x p q = met viewABC viewABC f x (λ i. ((λ y. y), (λ y. y))) (has-began p) (has-began q) (has-view p) (has-view q)
+
+-- by computation
+record AllFair : Type 0 where
+  pub with-losses : Fair viewABC withLosses
+  pub to-two : Fair viewABCThenXYZ withLosses
+  pub past-the-last : Fair viewABC pastTheLast
+  pub last-lost : Fair viewABC lastLost
+  pub along : quotesAlong withLosses ≡ alongLosses
+
+all-fair : AllFair
+unfolding Whole Applied ClearsDelivered sent quotesAlong delivered quoteOf levelOf bestStep sharesAt fold sumBy value digits shapeOf faultBy faultOf reachBy reachOf readBy readBody readSized readShape readTyped readReached readOf first insert remove look placeOf symbolIn vacancyOf applyTo dealTo nameBad registerOf judged meets actOn meant stepOf stepsOf
+all-fair = record {
+  with-losses = record {
+    whole = ((((((tt, refl), refl), refl), refl), refl), refl);
+    applied = ((((((tt, refl), refl), refl), refl), refl), refl);
+    clears = ((tt, omega arith), omega arith);
+  };
+  to-two = record {
+    whole = ((((((tt, refl), refl), refl), refl), refl), refl);
+    applied = ((((((tt, refl), refl), refl), refl), refl), refl);
+    clears = ((tt, omega arith), omega arith);
+  };
+  past-the-last = record { whole = ((((tt, refl), refl), refl), refl); applied = ((((tt, refl), refl), refl), refl); clears = tt };
+  last-lost = record { whole = ((((tt, refl), refl), refl), refl); applied = ((((tt, refl), refl), refl), refl); clears = (tt, omega arith) };
+  along = refl;
+}
+
+-- what the second reader quotes at each moment of the feed with losses
+pub losses-quoted : quotesAlong withLosses ≡ alongLosses
+losses-quoted = all-fair .along
+
+-- THE PREMISE IS MET, with losses and at number 4,294,967,295
+module _ {b c : Book} (p : HasABC b) (q : HasABC c) where
+  pub given-with-losses : Given b c withLosses
+  given-with-losses = met-by-ABC withLosses (all-fair .with-losses) p q
+
+  pub given-past-the-last : Given b c pastTheLast
+  given-past-the-last = met-by-ABC pastTheLast (all-fair .past-the-last) p q
+
+  pub given-last-lost : Given b c lastLost
+  given-last-lost = met-by-ABC lastLost (all-fair .last-lost) p q
+
+-- and with two symbols, registered in either order
+either-order : (i : ℕ) → Registered i viewABCThenXYZ ↔ Registered i viewXYZThenABC
+unfolding symbolIn placeOf vacancyOf first nameBad registerOf
+either-order i = go (eqb index i) (eqb other i) refl refl
+  where
+    go : (t u : Bool) → eqb index i ≡ t → eqb other i ≡ u → Registered i viewABCThenXYZ ↔ Registered i viewXYZThenABC
+    go true true e d = rw (e, d) ((λ y. tt), (λ y. tt))
+    go true false e d = rw (e, d) ((λ y. tt), (λ y. tt))
+    go false true e d = rw (e, d) ((λ y. tt), (λ y. tt))
+    go false false e d = rw (e, d) ((λ y. y), (λ y. y))
+
+pub given-in-either-order : {b c : Book} → Began b → Began c → view b ≡ viewABCThenXYZ → view c ≡ viewXYZThenABC → Given b c withLosses
+given-in-either-order = met viewABCThenXYZ viewXYZThenABC withLosses (all-fair .to-two) either-order
+
+-- Once the last number is applied every further numbered message answers 6, so that a feed that is given goes on with a clear, and nothing can be lost before it.
+pub after-the-last : (s : Symbol) (i n : ℕ) (e : Effect) → s .stale ≡ false → s .expected ≡ last + 1 → n ≤ last → meets s (numbered i n e) .answer ≡ 6
+unfolding meets judged
+after-the-last s i n e fresh turn h = rw (fresh, lt-ltb n (s .expected) (omega arith))
+
+-- ---- such a state there is
+pub record WithABC : Type 0 where
+  pub book : Book
+  pub has : HasABC book
+
+registers-ABC : (b : Book) → Fresh b → WithABC
+unfolding registerOf placeOf vacancyOf first nameBad among
+registers-ABC b f = record {
+  book = withHead b 0 (newHead index name scale) 0 .book;
+  has = registered f
+      (changes b (registerOf (view b) index name scale) (put (view b) 0 (record { symbol = newSymbol index name scale; answer = 0 })) (withHead b 0 (newHead index name scale) 0) (rw (f .new-view)) refl
+      (λ w. registers b index name scale 0 (rw (f .new-view)) (omega arith) (rw (f .heads)) (omega arith) w));
+}
+
+pub some-has-ABC : WithABC
+some-has-ABC = registers-ABC _ fresh

@@ -1,0 +1,92 @@
+-- Messages laid end to end are walked one by one: each reaches as far as its own bytes, whatever stands behind it.
+use mathlib.Core.List.{List, [], _∷_, _++_, append-assoc}
+use mathlib.Core.Path.{_≡_, refl, sym, ap, _∙_}
+use Prim.Native.Nat.{ℕ, zero, suc, _+_, _<_}
+use native.Mathlib.Omega.{arith}
+use native.Mathlib.Nat.{not-suc-le-zero}
+use lib.ListN.{length, take, drop, length-append, take-append-drop}
+use lib.Seq.{length-take-le, take-take, take-at, drop-at, drop-drop}
+use Rattle.wire.specs.Outcome.{Outcome, done, refused}
+use Rattle.wire.specs.Bytes.{value}
+use Rattle.wire.specs.Reading.{msgSize, reachOf, reachBy}
+use Rattle.wire.proofs.Cases.{reached, reach-size}
+use Rattle.book.proofs.Parts.{reach-more}
+use Rattle.book.specs.Walk.{walkBy, walkFor, walkOf}
+use Rattle.demands.specs.ByteFeed.{ByteFeed, begins, hears, loses, sent, delivered, joined, WholeMessage, Whole}
+
+abbrev pub AllWhole : List (List ℕ) → Type 0
+AllWhole [] = Unit {0}
+AllWhole (m ∷ ms) = WholeMessage m × AllWhole ms
+
+all-whole-more : (ms : List (List ℕ)) (m : List ℕ) → AllWhole ms → WholeMessage m → AllWhole (ms ++ m ∷ [])
+all-whole-more [] m a w = (w, tt)
+all-whole-more (x ∷ ms) m a w = (a .0, all-whole-more ms m (a .1) w)
+
+pub sent-whole : (f : ByteFeed) → Whole f → AllWhole (sent f)
+unfolding Whole sent
+sent-whole begins w = tt
+sent-whole (hears f m) w = all-whole-more (sent f) m (sent-whole f (w .0)) (w .1)
+sent-whole (loses f m) w = all-whole-more (sent f) m (sent-whole f (w .0)) (w .1)
+
+pub delivered-whole : (f : ByteFeed) → Whole f → AllWhole (delivered f)
+unfolding Whole delivered
+delivered-whole begins w = tt
+delivered-whole (hears f m) w = all-whole-more (delivered f) m (delivered-whole f (w .0)) (w .1)
+delivered-whole (loses f m) w = delivered-whole f (w .0)
+
+-- the bytes that a message reaches over, alone
+whole-part : (s : List ℕ) (n : ℕ) → reachOf s ≡ done n → WholeMessage (take n s)
+whole-part s n e =
+    let r = reached s n e in
+    let long : length (take n s) ≡ n = length-take-le n s (r .there) in
+    let size : msgSize (take n s) ≡ n = ap value (take-take 2 n s (omega (arith, r .least))) ∙ r .size in
+    reach-size (take n s) (omega (arith, r .least)) (omega (arith, r .least)) (omega arith) ∙ ap done (size ∙ sym long)
+
+walk-joined : (ms : List (List ℕ)) → AllWhole ms → (fuel : ℕ) (s : List ℕ) (at : ℕ) → drop at s ≡ joined ms → length (joined ms) < fuel → walkFor fuel s at .messages ≡ ms
+unfolding walkFor joined reachOf reachBy
+walk-joined [] w zero s at e h = refl
+walk-joined [] w (suc fuel) s at e h = rw e
+walk-joined (m ∷ ms) w zero s at e h = absurd (not-suc-le-zero h)
+walk-joined (m ∷ ms) w (suc fuel) s at e h =
+    let r = reached m (length m) (w .0) in
+    let n = length-append m (joined ms) in
+    let first : take (length m) (drop at s) ≡ m = ap (take (length m)) e ∙ take-at m (joined ms) (length m) refl in
+    let rest : drop (at + length m) s ≡ joined ms = sym (drop-drop (length m) at s) ∙ ap (drop (length m)) e ∙ drop-at m (joined ms) (length m) refl in
+    let reach : reachOf (drop at s) ≡ done (length m) = ap reachOf e ∙ reach-more m (joined ms) (length m) (w .0) in
+    ap (λ (x : Outcome ℕ). walkBy x s at (λ e. walkFor fuel s e) .messages) reach
+    ∙ (λ i. first i ∷ walk-joined ms (w .1) fuel s (at + length m) rest (omega (arith, h, r .least)) i)
+
+pub walks-messages : (ms : List (List ℕ)) → AllWhole ms → walkOf (joined ms) 0 .messages ≡ ms
+unfolding walkOf
+walks-messages ms w = walk-joined ms w (suc (length (joined ms))) (joined ms) 0 refl (omega arith)
+
+-- ---- and every stream is such: what a walk passes are whole messages, which laid end to end, with what is left, are the stream
+walked-whole : (fuel : ℕ) (s : List ℕ) (at : ℕ) → AllWhole (walkFor fuel s at .messages)
+unfolding walkFor
+walked-whole zero s at = tt
+walked-whole (suc fuel) s at = go (walked-whole fuel s) (reachOf (drop at s)) refl
+  where
+    go : ((e : ℕ) → AllWhole (walkFor fuel s e .messages)) → (x : Outcome ℕ) → reachOf (drop at s) ≡ x → AllWhole (walkBy x s at (λ e. walkFor fuel s e) .messages)
+    go ih (refused a) e = tt
+    go ih (done n) e = (whole-part (drop at s) n e, ih (at + n))
+
+walked-joined : (fuel : ℕ) (s : List ℕ) (at : ℕ) → joined (walkFor fuel s at .messages) ++ drop (walkFor fuel s at .at) s ≡ drop at s
+unfolding walkFor joined
+walked-joined zero s at = refl
+walked-joined (suc fuel) s at = go (walked-joined fuel s) (reachOf (drop at s))
+  where
+    go : ((e : ℕ) → joined (walkFor fuel s e .messages) ++ drop (walkFor fuel s e .at) s ≡ drop e s) → (x : Outcome ℕ)
+        → joined (walkBy x s at (λ e. walkFor fuel s e) .messages) ++ drop (walkBy x s at (λ e. walkFor fuel s e) .at) s ≡ drop at s
+    go ih (refused a) = refl
+    go ih (done n) =
+        append-assoc (take n (drop at s)) (joined (walkFor fuel s (at + n) .messages)) (drop (walkFor fuel s (at + n) .at) s)
+        ∙ ap (λ (l : List ℕ). take n (drop at s) ++ l) (ih (at + n) ∙ sym (drop-drop n at s))
+        ∙ take-append-drop n (drop at s)
+
+pub record Laid (s : List ℕ) (at : ℕ) : Type 0 where
+  pub whole : AllWhole (walkOf s at .messages)
+  pub stream : joined (walkOf s at .messages) ++ drop (walkOf s at .at) s ≡ drop at s
+
+pub every-stream : (s : List ℕ) (at : ℕ) → Laid s at
+unfolding walkOf
+every-stream s at = record { whole = walked-whole (suc (length s)) s at; stream = walked-joined (suc (length s)) s at }

@@ -1,0 +1,12 @@
+pub mod Reader
+pub mod Reading
+pub mod Starting
+pub mod Laying
+pub mod Translating
+pub mod Moments
+pub mod Refused
+pub mod Demand1
+pub mod Demand2
+pub mod Demand3
+pub mod OneOutcome
+pub mod Examples

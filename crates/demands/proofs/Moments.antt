@@ -1,0 +1,79 @@
+-- The moments of a feed are its beginnings: what is given of a feed is given of them, and `feed` finds a symbol in one of three standings at each.
+use Prim.Native.Nat.{ℕ}
+use native.Mathlib.Omega.{arith}
+use mathlib.Core.List.{List}
+use mathlib.Core.Path.{_≡_, refl}
+use Rattle.feed.specs.Feed.{Item, Feed, _▷_, heard, lost, Phase, phase}
+use Rattle.feed.specs.Demand3.{Since, here, more, AfterLoss, Stands}
+use Rattle.feed.specs.Demand3 as feed
+use Rattle.feed.proofs.Words as words
+use Rattle.book.specs.declared.Book.{Book}
+use Rattle.demands.specs.Reader.{Effect}
+use Rattle.demands.specs.ByteFeed.{ByteFeed, begins, hears, loses, Moment, now, then-hears, then-loses, Whole, Applied, ClearsDelivered, actIn, feedOf}
+use Rattle.demands.specs.Demand3.{Given, Standing, none-lost, after-loss, until-clear}
+
+module _ (b c : Book) where
+  -- what is given of a feed is given of its every moment
+  before-hears : {f : ByteFeed} {m : List ℕ} → Given b c (hears f m) → Given b c f
+  unfolding Whole Applied ClearsDelivered
+  before-hears g = record {
+    first-began = g .first-began;
+    second-began = g .second-began;
+    same-symbols = g .same-symbols;
+    whole = g .whole .0;
+    applied = g .applied .0;
+    clears-delivered = g .clears-delivered;
+  }
+
+  before-loses : {f : ByteFeed} {m : List ℕ} → Given b c (loses f m) → Given b c f
+  unfolding Whole Applied ClearsDelivered
+  before-loses g = record {
+    first-began = g .first-began;
+    second-began = g .second-began;
+    same-symbols = g .same-symbols;
+    whole = g .whole .0;
+    applied = g .applied .0;
+    clears-delivered = g .clears-delivered .0;
+  }
+
+  pub given-at : {h f : ByteFeed} → Moment h f → Given b c f → Given b c h
+  given-at now g = g
+  given-at (then-hears m) g = given-at m (before-hears g)
+  given-at (then-loses m) g = given-at m (before-loses g)
+
+-- ---- a moment of the feed in messages is a moment of the feed in bytes
+record Found (g : Feed Effect) (f : ByteFeed) : Type 0 where
+  pub moment : ByteFeed
+  pub earlier : Moment moment f
+  pub is : feedOf moment ≡ g
+
+found-more : (g x : Feed Effect) (it : Item Effect) → ((f : ByteFeed) → feedOf f ≡ x → Found g f) → (f : ByteFeed) → feedOf f ≡ x ▷ it → Found g f
+unfolding feedOf
+found-more g x it ih begins e = absurd (let z : _≡_ {A = ℕ} 0 1 = cc in omega arith)
+found-more g x it ih (hears f m) e = let i = ih f (cc) in record { moment = i .moment; earlier = then-hears (i .earlier); is = i .is }
+found-more g x it ih (loses f m) e = let i = ih f (cc) in record { moment = i .moment; earlier = then-loses (i .earlier); is = i .is }
+
+found : {P : Item Effect → Type 0} {g x : Feed Effect} → Since P g x → (f : ByteFeed) → feedOf f ≡ x → Found g f
+found here f e = record { moment = f; earlier = now; is = e }
+found {g = g} (more {f = x} {it = it} r p) f e = found-more g x it (found r) f e
+
+-- the moment just before a loss
+earlier-still : {k f : ByteFeed} {m : List ℕ} → Moment (loses k m) f → Moment k f
+earlier-still now = then-loses now
+earlier-still (then-hears p) = then-hears (earlier-still p)
+earlier-still (then-loses p) = then-loses (earlier-still p)
+
+module _ (index : ℕ) (f : ByteFeed) where
+  before-loss : (h : Feed Effect) (message : _) → AfterLoss index h (feedOf f) → (k : ByteFeed) → Moment k f → feedOf k ≡ h ▷ lost message → Standing index f
+  unfolding feedOf
+  before-loss h message a begins p e = absurd (let z : _≡_ {A = ℕ} 0 1 = cc in omega arith)
+  before-loss h message a (hears k m) p e = absurd (let i : heard (actIn m) ≡ lost message = cc in let z : _≡_ {A = ℕ} 0 1 = cc in omega arith)
+  before-loss h message a (loses k m) p e = let i : feedOf k ≡ h = cc in after-loss (earlier-still p) (rw i a)
+
+  pub every-moment : Standing index f
+  every-moment = go (phase index (feedOf f)) (words.every-moment index (feedOf f))
+    where
+      go : (p : Phase Effect) → Stands index (feedOf f) p → Standing index f
+      go _ (feed.none-lost n) = none-lost n
+      go _ (feed.after-loss {h = h} a) = let x = found (a .since) f refl in before-loss h (a .message) a (x .moment) (x .earlier) (x .is)
+      go _ (feed.until-clear u) = until-clear u

@@ -1,0 +1,90 @@
+-- The rules that the contracts cite are a reader of `feed`: of its own symbol a message keeps what feed's rule says, and of the others all.
+use mathlib.Core.Bool.{Bool, true, false}
+use mathlib.Core.Option.{Option, none, some}
+use mathlib.Core.Path.{_≡_, refl, ap}
+use Prim.Native.Nat.{ℕ, _+_}
+use lib.Dec.{ltb}
+use Rattle.feed.specs.Reader.{Fit, fits, misfit, no-room, Act, clear, numbered, indexOf, Reader, answerOf, afterOf}
+use Rattle.feed.specs.Reader as feed
+use Rattle.book.specs.State.{Symbol, View, placeOf, symbolIn}
+use Rattle.book.specs.Rules.{applyTo}
+use Rattle.book.specs.Record.{dealOf}
+use Rattle.book.specs.Step.{judged, meets, actAt, actOn}
+use Rattle.book.specs.Quote.{quoted, quoteOf}
+use Rattle.book.proofs.Isolation.{unregistered-stays, own-symbol, own-symbol-only}
+use Rattle.demands.specs.Reader.{pillar, Orders, Effect, keptOf, keptIf, keptIn, asQuote}
+
+-- ---- one symbol: name, scale and record are not feed's affair
+judged-answers : (s : Symbol) (stale below above : Bool) (x : Fit Orders) (d : _) → judged s stale below above x d .answer ≡ feed.judged (keptOf s) stale below above x .answer
+unfolding judged feed.judged
+judged-answers s true below above x d = refl
+judged-answers s false true above x d = refl
+judged-answers s false false true x d = refl
+judged-answers s false false false misfit d = refl
+judged-answers s false false false no-room d = refl
+judged-answers s false false false (fits os) d = refl
+
+judged-keeps : (s : Symbol) (stale below above : Bool) (x : Fit Orders) (d : _) → s .stale ≡ stale → keptOf (judged s stale below above x d .symbol) ≡ feed.judged (keptOf s) stale below above x .after
+unfolding judged feed.judged
+judged-keeps s true below above x d e = refl
+judged-keeps s false true above x d e = refl
+judged-keeps s false false true x d e = refl
+judged-keeps s false false false misfit d e = refl
+judged-keeps s false false false no-room d e = refl
+judged-keeps s false false false (fits os) d e = λ i. record { expected = s .expected + 1; stale = e i; orders = os }
+
+meets-answers : (s : Symbol) (m : Act Effect) → meets s m .answer ≡ feed.meets pillar (keptOf s) m .answer
+unfolding meets feed.meets
+meets-answers s (clear index next) = refl
+meets-answers s (numbered index n e) = judged-answers s (s .stale) (ltb n (s .expected)) (ltb (s .expected) n) (applyTo (s .orders) e) (dealOf e)
+
+meets-keeps : (s : Symbol) (m : Act Effect) → keptOf (meets s m .symbol) ≡ feed.meets pillar (keptOf s) m .after
+unfolding meets feed.meets
+meets-keeps s (clear index next) = refl
+meets-keeps s (numbered index n e) = judged-keeps s (s .stale) (ltb n (s .expected)) (ltb (s .expected) n) (applyTo (s .orders) e) (dealOf e) refl
+
+-- ---- the eight symbols: feed's three laws
+module _ (v : View) (m : Act Effect) where
+  pub says : actOn v m .answer ≡ answerOf pillar (keptIn v (indexOf m)) m
+  unfolding actOn keptIn answerOf
+  says = go (symbolIn (indexOf m) v)
+    where
+      go : (x : Option Symbol) → actAt v (placeOf (indexOf m) v) x m .answer ≡ answerOf pillar (keptIf x) m
+      go none = refl
+      go (some s) = meets-answers s m
+
+  pub own : keptIn (actOn v m .view) (indexOf m) ≡ afterOf pillar (keptIn v (indexOf m)) m
+  unfolding keptIn afterOf
+  own = go (symbolIn (indexOf m) v) refl
+    where
+      go : (x : Option Symbol) → symbolIn (indexOf m) v ≡ x → keptIf (symbolIn (indexOf m) (actOn v m .view)) ≡ afterOf pillar (keptIf (symbolIn (indexOf m) v)) m
+      go none e = rw (unregistered-stays v m e, e)
+      go (some s) e = rw (own-symbol v m s e, e) (ap some (meets-keeps s m))
+
+  pub other : (i : ℕ) → (i ≡ indexOf m → ⊥) → keptIn (actOn v m .view) i ≡ keptIn v i
+  unfolding keptIn
+  other i ne = ap keptIf (own-symbol-only v m i ne)
+
+abbrev pub reader : Reader pillar
+reader = record {
+  State = View;
+  kept = keptIn;
+  answer = λ v m. actOn v m .answer;
+  step = λ v m. actOn v m .view;
+  says = says;
+  own = own;
+  other = other;
+}
+
+-- ---- a quote of the book is feed's quote of what is kept
+pub quotes-kept : (v : View) (index : ℕ) → quoteOf index v ≡ asQuote (feed.quoteOf pillar (keptIn v index))
+unfolding quoteOf keptIn asQuote feed.quoteOf
+quotes-kept v index = go (symbolIn index v)
+  where
+    shown : (s : Symbol) (stale : Bool) → s .stale ≡ stale → quoted (some s) ≡ asQuote (feed.quoteOf pillar (some (keptOf s)))
+    shown s true e = rw e
+    shown s false e = rw e
+
+    go : (x : Option Symbol) → quoted x ≡ asQuote (feed.quoteOf pillar (keptIf x))
+    go none = refl
+    go (some s) = shown s (s .stale) refl

@@ -1,0 +1,81 @@
+-- A feed as bytes: what is sent, what reaches the second reader, and what each message says.
+use Prim.Native.Nat.{ℕ}
+use mathlib.Core.List.{List, [], _∷_, _++_}
+use mathlib.Core.Path.{_≡_}
+use lib.ListN.{length}
+use Rattle.wire.specs.Outcome.{Outcome, done, refused}
+use Rattle.wire.specs.Reading.{msgType, reachOf, readOf}
+use Rattle.wire.specs.declared.Message.{Message}
+use Rattle.feed.specs.Reader.{Act, clear}
+use Rattle.feed.specs.Feed.{Feed, start, _▷_, heard, lost}
+use Rattle.book.specs.State.{View}
+use Rattle.book.specs.Step.{stepOf, meant}
+use Rattle.book.specs.Walk.{stepsOf}
+use Rattle.demands.specs.Reader.{Effect}
+
+-- A feed up to a moment, the last message outermost: each message, in bytes, is heard by the second reader or lost on the way to it.
+pub data ByteFeed : Type 0 where
+  begins : ByteFeed
+  hears : ByteFeed → List ℕ → ByteFeed
+  loses : ByteFeed → List ℕ → ByteFeed
+
+-- the messages of it, and those that the second reader is given
+unfoldable pub sent : ByteFeed → List (List ℕ)
+sent begins = []
+sent (hears f m) = sent f ++ m ∷ []
+sent (loses f m) = sent f ++ m ∷ []
+
+unfoldable pub delivered : ByteFeed → List (List ℕ)
+delivered begins = []
+delivered (hears f m) = delivered f ++ m ∷ []
+delivered (loses f m) = delivered f
+
+-- messages laid end to end
+unfoldable pub joined : List (List ℕ) → List ℕ
+joined [] = []
+joined (m ∷ ms) = m ++ joined ms
+
+-- h is f, or an earlier moment of it
+pub data Moment (h : ByteFeed) : ByteFeed → Type 0 where
+  now : Moment h h
+  then-hears : {f : ByteFeed} {m : List ℕ} → Moment h f → Moment h (hears f m)
+  then-loses : {f : ByteFeed} {m : List ℕ} → Moment h f → Moment h (loses f m)
+
+-- ---- what is asked of it
+-- each message has as many bytes as its Msg Size says
+abbrev pub WholeMessage : List ℕ → Type 0
+WholeMessage m = reachOf m ≡ done (length m)
+
+unfoldable pub Whole : ByteFeed → Type 0
+Whole begins = Unit {0}
+Whole (hears f m) = Whole f × WholeMessage m
+Whole (loses f m) = Whole f × WholeMessage m
+
+-- a reader that receives all of it applies it without one refusal
+abbrev pub IsDone : View → List (List ℕ) → List ℕ → Type 0
+IsDone v ms m = stepOf (stepsOf v ms) (readOf m) .answer ≡ 0
+
+unfoldable pub Applied : View → ByteFeed → Type 0
+Applied v begins = Unit {0}
+Applied v (hears f m) = Applied v f × IsDone v (sent f) m
+Applied v (loses f m) = Applied v f × IsDone v (sent f) m
+
+-- every symbol clear is delivered: what is lost is not of type 32
+unfoldable pub ClearsDelivered : ByteFeed → Type 0
+ClearsDelivered begins = Unit {0}
+ClearsDelivered (hears f m) = ClearsDelivered f
+ClearsDelivered (loses f m) = ClearsDelivered f × (msgType m ≡ 32 → ⊥)
+
+-- ---- the same feed in the words of `feed`
+-- what a message says; one that reading refuses says nothing, and no feed that is applied holds one
+abbrev pub said : Outcome Message → Act Effect
+said (done m) = meant m
+said (refused n) = clear 0 0
+
+abbrev pub actIn : List ℕ → Act Effect
+actIn m = said (readOf m .outcome)
+
+unfoldable pub feedOf : ByteFeed → Feed Effect
+feedOf begins = start
+feedOf (hears f m) = feedOf f ▷ heard (actIn m)
+feedOf (loses f m) = feedOf f ▷ lost (actIn m)

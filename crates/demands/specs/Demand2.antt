@@ -1,0 +1,76 @@
+-- Demand 2 of document 00, gathered: what is quoted of a state, and what a message does to it.
+use Prim.Native.Nat.{ℕ, _+_, _≤_}
+use mathlib.Core.Bool.{Bool, true}
+use mathlib.Core.List.{List, [], _∷_, List·Memᴰ}
+use mathlib.Core.Logic.{_≢_}
+use mathlib.Core.Option.{some}
+use mathlib.Core.Path.{_≡_}
+use lib.Dec.{eqb}
+use lib.ListN.{length}
+use Rattle.wire.specs.Outcome.{done}
+use Rattle.wire.specs.Bytes.{plainRoom}
+use Rattle.wire.specs.Message.{fieldsOf}
+use Rattle.wire.specs.Reading.{msgSize, readOf}
+use Rattle.wire.specs.Writing.{writeOf}
+use Rattle.wire.specs.RoundTrip.{InRange, Bytes, ReadsBack, WritesBack}
+use Rattle.wire.specs.declared.Head.{Head}
+use Rattle.wire.specs.declared.Message.{Message}
+use Rattle.feed.specs.Reader.{indexOf}
+use Rattle.places.specs.Places.{count, sumBy}
+use Rattle.book.specs.State.{ordersEach, orderNumber, Symbol, view, symbolIn}
+use Rattle.book.specs.Promises.{Obeys}
+use Rattle.book.specs.Quote.{counts, sharesAt}
+use Rattle.book.specs.Step.{buys, meant}
+use Rattle.book.specs.Walk.{moveOf, walkOf, runOf, Moves, Runs}
+use Rattle.book.specs.declared.Book.{Book}
+use Rattle.book.specs.declared.quote.Level.{Level}
+use Rattle.book.specs.declared.walk.Moved.{Moved}
+use Rattle.book.specs.declared.walk.Ran.{Ran}
+use Rattle.book.proofs.Levels.{sideOf, NoBetter}
+use Rattle.demands.specs.Demand3.{StandsAt, quoteIn}
+
+-- the message is not for the symbol; one that reading refuses is for nobody
+abbrev pub NotFor : ℕ → List ℕ → Type 0
+NotFor index m = (x : Message) → readOf m .outcome ≡ done x → index ≢ indexOf (meant x)
+
+-- ---- of a state: what it quotes and holds of a symbol
+pub record OfSymbol (b : Book) (index : ℕ) (s : Symbol) : Type 0 where
+  -- a price level holds the exact sum of its live orders,
+  pub exact-sum : (buy : Bool) (price size : ℕ) → sideOf buy (quoteIn b index) ≡ Level.Best price size → size ≡ sumBy (sharesAt buy price) (s .orders)
+  -- and no live order of its side is better
+  pub best-price : (buy : Bool) (price size : ℕ) → sideOf buy (quoteIn b index) ≡ Level.Best price size → (o : _) → List·Memᴰ o (s .orders) → counts buy o ≡ true → NoBetter buy price (o .price)
+  -- at most one live order of a number, and at most 64 live
+  pub one-live : (number : ℕ) → count (λ o. eqb (orderNumber o) number) (s .orders) ≤ 1
+  pub at-most-64 : length (s .orders) ≤ ordersEach
+
+-- ---- of a message: what `apply` makes of it at a position
+pub record OfMessage (b : Book) (s : List ℕ) (at : ℕ) (r : Moved) : Type 0 where
+  -- it does what document 01 says: the next view and the answer are those of the rule
+  pub effects : Obeys (moveOf (view b) s at) (r .book) (r .answer)
+  -- case D's rule: an add that is done at the best price raises the quoted size by its volume
+  pub case-d : {m : List ℕ} (head : Head) (order price volume side size : ℕ) → StandsAt s at m → readOf m .outcome ≡ done (Message.Add head order price volume side) → r .answer ≡ 0
+      → sideOf (buys side) (quoteIn b (head .index)) ≡ Level.Best price size → sideOf (buys side) (quoteIn (r .book) (head .index)) ≡ Level.Best price (size + volume)
+  -- a message for one symbol changes nothing kept for another: orders, record, mark, number, name and scale; nor does a refusal
+  pub others-unchanged : (index : ℕ) → ((m : List ℕ) → StandsAt s at m → NotFor index m) → symbolIn index (view (r .book)) ≡ symbolIn index (view b)
+
+-- ---- of a run: each message in turn
+abbrev pub AllNotFor : ℕ → List (List ℕ) → Type 0
+AllNotFor index [] = Unit {0}
+AllNotFor index (m ∷ ms) = NotFor index m × AllNotFor index ms
+
+pub record OfRun (b : Book) (s : List ℕ) (from : ℕ) (r : Ran) : Type 0 where
+  pub effects : Obeys (runOf (view b) s from) (r .book) (r .answer)
+  -- the position is the start and the Msg Sizes passed
+  pub position : r .at ≡ from + sumBy msgSize (walkOf s from .messages)
+  pub others-unchanged : (index : ℕ) → AllNotFor index (walkOf s from .messages) → symbolIn index (view (r .book)) ≡ symbolIn index (view b)
+
+-- DEMAND 2, for every state that the calls can be given
+pub record Demand2 (b : Book) : Type 0 where
+  pub symbols : (index : ℕ) (s : Symbol) → symbolIn index (view b) ≡ some s → OfSymbol b index s
+  pub messages : {s : List ℕ} {at : ℕ} {r : Moved} → Moves b s at r → OfMessage b s at r
+  pub runs : {s : List ℕ} {from : ℕ} {r : Ran} → Runs b s from r → OfRun b s from r
+
+-- and of the messages alone: reading what we wrote gives the same message, and writing what we read gives the same bytes when the reserved bytes are zero
+pub record RoundTrips : Type 0 where
+  pub read-what-was-written : (m : Message) (plain out : List ℕ) → length plain ≡ plainRoom → InRange (fieldsOf m) → ReadsBack m plain (writeOf m plain out)
+  pub write-what-was-read : (s : List ℕ) → Bytes s → WritesBack s (readOf s)

@@ -1,0 +1,76 @@
+-- Feeds that demand 3 takes as given, as bytes: one with losses, and two at the last number that a message can carry.
+use Prim.Native.Nat.{ℕ}
+use mathlib.Core.List.{List, [], _∷_}
+use Rattle.book.specs.State.{View, newView, view, Fresh}
+use Rattle.book.specs.Promises.{Steps}
+use Rattle.book.specs.Registering.{registerOf}
+use Rattle.book.specs.Quote.{noQuote, quoteOf}
+use Rattle.book.specs.Walk.{stepsOf}
+use Rattle.book.specs.declared.Book.{Book}
+use Rattle.book.specs.declared.Done.{Done}
+use Rattle.book.specs.declared.quote.Quote.{Quote}
+use Rattle.demands.specs.ByteFeed.{ByteFeed, begins, hears, loses, delivered}
+use Rattle.demands.specs.Messages.{index, buy, sell, add, delete, execute, clear, shows, none, _at_}
+
+-- a new state with ABC registered, scale 4
+abbrev pub name : List ℕ
+name = 65 ∷ 66 ∷ 67 ∷ []
+
+abbrev pub scale : ℕ
+scale = 4
+
+pub data HasABC : Book → Type 0 where
+  registered : {b : Book} {r : Done} → Fresh b → Steps b (registerOf (view b) index name scale) r → HasABC (r .book)
+
+abbrev pub viewABC : View
+viewABC = registerOf newView index name scale .view
+
+-- the same with XYZ, in the two orders of registering
+abbrev pub other : ℕ
+other = 8
+
+abbrev pub otherName : List ℕ
+otherName = 88 ∷ 89 ∷ 90 ∷ []
+
+abbrev pub viewABCThenXYZ : View
+viewABCThenXYZ = registerOf viewABC other otherName scale .view
+
+abbrev pub viewXYZThenABC : View
+viewXYZThenABC = registerOf (registerOf newView other otherName scale .view) index name scale .view
+
+-- number 2 is lost, 3 shows it, a clear gives 9, and then 10 is lost
+abbrev pub withLosses : ByteFeed
+withLosses =
+    loses (hears (hears (hears (loses (hears begins
+    (add 1 1001 buy 1234500 200))
+    (add 2 1002 buy 1234500 50))
+    (execute 3 1001 1 1234400 200))
+    (clear 9))
+    (add 9 1003 sell 1235000 70))
+    (delete 10 1003)
+
+-- what the second reader quotes of ABC at each moment, the last one outermost
+unfoldable pub quotesAlong : ByteFeed → List Quote
+quotesAlong begins = []
+quotesAlong (hears f m) = quoteOf index (stepsOf viewABC (delivered (hears f m))) ∷ quotesAlong f
+quotesAlong (loses f m) = quoteOf index (stepsOf viewABC (delivered (loses f m))) ∷ quotesAlong f
+
+abbrev pub alongLosses : List Quote
+alongLosses =
+    shows none (70 at 1235000)
+    ∷ shows none (70 at 1235000)
+    ∷ shows none none
+    ∷ noQuote 8
+    ∷ shows (200 at 1234500) none
+    ∷ shows (200 at 1234500) none
+    ∷ []
+
+-- the last number: applied, after which only a clear goes on; and lost
+abbrev pub last : ℕ
+last = 4294967295
+
+abbrev pub pastTheLast : ByteFeed
+pastTheLast = hears (hears (hears (hears begins (clear last)) (add last 1001 buy 1234500 200)) (clear 1)) (add 1 1002 buy 1234500 50)
+
+abbrev pub lastLost : ByteFeed
+lastLost = hears (hears (loses (hears begins (clear last)) (add last 1001 buy 1234500 200)) (clear 1)) (add 1 1002 buy 1234500 50)

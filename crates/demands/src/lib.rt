@@ -1,0 +1,11 @@
+// The customer's demands, as theorems about the reader that the crates below build. No code stands here.
+//
+// | Of | Statement | Theorem |
+// |---|---|---|
+// | demand 1: the numbers of each call, and what a refusal leaves | specs/Demand1 | demand-1-holds |
+// | demand 2: levels, effects, isolation, case D's rule; round trips | specs/Demand2 | demand-2-holds, round-trips |
+// | demand 3: over views; by any calls; from bytes | specs/Demand3 | demand-3-over-views, demand-3-holds, demand-3-from-bytes |
+// | that one of its clauses applies at every moment | specs/Demand3 | every-moment, given-at |
+// | that its premise is met, with losses and at the last number | specs/Examples | given-with-losses, given-in-either-order, given-past-the-last, given-last-lost |
+// | that a message refused with 1 to 5 acts as a lost one | proofs/Refused | refused-changes-nothing, refused-acts-as-lost |
+// | that each contract leaves one outcome | specs/OneOutcome | one-outcome |
