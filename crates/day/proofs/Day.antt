@@ -1,15 +1,20 @@
--- Each row of the day holds by computation, and the calls' promises cite the rules that were computed.
+-- Each row of the day holds by computation, and the calls' promises cite the rules that were computed; L is the page's marked case.
 use mathlib.Core.List.{List, [], _∷_}
-use mathlib.Core.Path.{refl, ap, _∙_}
+use mathlib.Core.Path.{_≡_, refl, ap, _∙_}
 use Rattle.wire.specs.Bytes.{value, digits}
 use Rattle.wire.specs.Table.{shapeOf}
 use Rattle.wire.specs.Fields.{faultBy, faultOf}
 use Rattle.wire.specs.Reading.{reachBy, reachOf, readBy, readBody, readSized, readShape, readTyped, readReached, readOf}
-use Rattle.places.specs.Places.{first, fold, sumBy, insert, remove, look}
-use Rattle.book.specs.State.{View, placeOf, symbolIn, vacancyOf}
+use Rattle.places.specs.Places.{first, fold, sumBy, insert, remove, look, tabulate}
+use Rattle.book.specs.State.{View, padded, placeOf, symbolIn, vacancyOf}
 use Rattle.book.specs.Rules.{applyTo}
 use Rattle.book.specs.Record.{dealTo}
-use Rattle.book.specs.Registering.{nameBad, registerOf}
+use Rattle.book.specs.Registering.{nameBad, registerOf, toldOf}
+use Rattle.book.specs.declared.Book.{Book}
+use Rattle.book.specs.declared.symbols.Registered.{Registered}
+use Rattle.page.specs.Printing.{lineOf, told}
+use Rattle.page.proofs.Marked as marked
+use Rattle.demands.specs.Examples.{HasABC}
 use Rattle.book.specs.Quote.{bestStep, sharesAt, levelOf, quoteOf}
 use Rattle.book.specs.Step.{judged, meets, actOn, meant, stepOf}
 use Rattle.book.specs.Walk.{moveOf, stepsOf}
@@ -17,7 +22,7 @@ use Rattle.demands.specs.Messages.{index}
 use Rattle.demands.proofs.Starting.{began-wf}
 use Rattle.demands.proofs.Demand3.{reads-after}
 use Rattle.demands.proofs.Examples.{has-began, has-view}
-use Rattle.day.specs.Rows.{Row, resultOf, Holds, Shown, AllRows, rows}
+use Rattle.day.specs.Rows.{Row, resultOf, Holds, Shown, AllRows, rows, LineL, Day}
 
 -- what the calls hand back is what the rules say
 by-calls : (r : Row) → Holds r → Shown r
@@ -39,6 +44,17 @@ by-rule : AllRows Holds rows
 unfolding value digits shapeOf faultBy faultOf reachBy reachOf readBy readBody readSized readShape readTyped readReached readOf first fold sumBy insert remove look placeOf symbolIn vacancyOf applyTo dealTo nameBad registerOf bestStep sharesAt levelOf quoteOf judged meets actOn meant stepOf moveOf stepsOf
 by-rule = (refl, (refl, (refl, (refl, (refl, (refl, (refl, (refl, (refl, (refl, (refl, (refl, (refl, tt)))))))))))))
 
+-- what is told of ABC is what the marked case has
+abc-told : {b : Book} → HasABC b → told b marked.add ≡ marked.abc
+unfolding first placeOf symbolIn vacancyOf nameBad registerOf toldOf padded tabulate
+abc-told p = ap (λ (v : View). toldOf (symbolIn 7 v)) (has-view p) ∙ refl
+
+line-l : LineL
+line-l = record {
+  by-calls = λ p out after h promise room.
+      promise (began-wf (has-began h)) ∙ ap (λ (s : Registered). lineOf s marked.add marked.firm 57 34200 out) (abc-told h) ∙ marked.case-l out room;
+}
+
 -- THE DAY
-pub day : AllRows Shown rows
-day = all-by-calls rows by-rule
+pub day : Day
+day = record { a-to-k = all-by-calls rows by-rule; l = line-l }

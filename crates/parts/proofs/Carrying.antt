@@ -1,12 +1,12 @@
 -- The next byte to move lies at or ahead of the place it goes to, so that no store so far has touched it.
-use mathlib.Core.Path.{_≡_, refl, sym, ap, _∙_}
+use mathlib.Core.Path.{_≡_, sym, ap, _∙_}
 use mathlib.Core.List.{List, _++_}
 use Prim.Native.Nat.{ℕ, _+_, _-_, _<_, _≤_}
 use native.Mathlib.Omega.{arith}
 use native.Mathlib.Nat.{zero-add}
 use native.Mathlib.Numerals.{add-one}
 use lib.ListN.{length, getD, take, drop, set}
-use lib.Seq.{paste, paste-suc, length-take-le, length-slice, getD-append-add, getD-drop, getD-take, take-all, take-at}
+use lib.Seq.{paste-suc, length-take-le, length-slice, getD-append-add, getD-drop, getD-take, take-all}
 use borrow.Author.Tests.{lt-ltb, le-ltb}
 use Rattle.wire.specs.Bytes.{part}
 use Rattle.parts.specs.Carry.{carried, carryBy, carryOf}

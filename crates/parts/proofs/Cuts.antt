@@ -14,7 +14,7 @@ use Rattle.wire.specs.Outcome.{done, refused}
 use Rattle.wire.specs.Reading.{reachOf}
 use Rattle.wire.proofs.Cases.{reached, reach-short}
 use Rattle.book.specs.Walk.{Walk, walkOf}
-use Rattle.parts.specs.Parts.{leftOf, stopped, onward, unlessSmall, walkFrom, walkParts}
+use Rattle.parts.specs.Parts.{leftOf, onward, unlessSmall, walkFrom, walkParts}
 use Rattle.parts.proofs.More.{unreached, reach-more, small-more}
 use Rattle.parts.proofs.Walks.{after, walk-stops, walk-goes, by-messages, left-stops}
 

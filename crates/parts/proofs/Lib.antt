@@ -1,6 +1,8 @@
 pub mod Carrying
+pub mod OneOutcome
 pub mod More
 pub mod Walks
 pub mod Cuts
 pub mod FullParts
 pub mod Opening
+pub mod Runs

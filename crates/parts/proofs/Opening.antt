@@ -7,7 +7,7 @@ use lib.ListN.{length, take, drop}
 use lib.Seq.{length-take-le, length-slice, take-at}
 use Rattle.wire.specs.Bytes.{part}
 use Rattle.book.specs.Walk.{walkOf}
-use Rattle.parts.specs.Carry.{Carry, carryOf, opening}
+use Rattle.parts.specs.Carry.{carryOf, opening}
 use Rattle.parts.specs.Parts.{leftOf}
 use Rattle.parts.proofs.Carrying.{carry-within}
 use Rattle.parts.proofs.Walks.{walk-within}

@@ -1,5 +1,5 @@
 -- After i turns the first i bytes are moved and the others are as they were (`moved`); the byte to move next is still there (`moved-next`).
-use Prim.Native.Nat.{ℕ, _+_, _-_, _<_, _≤_}
+use Prim.Native.Nat.{_+_, _-_, _≤_}
 use mathlib.Core.Path.{_≡_, refl, sym, ap, _∙_}
 use native.Mathlib.Omega.{arith}
 use lib.ListN.{length, getD, length-set}
