@@ -13,6 +13,7 @@ pub mod Walking
 pub mod Isolation
 pub mod Holding
 pub mod Levels
+pub mod Marks
 pub mod Refusals
 pub mod Answers
 pub mod Positions

@@ -18,7 +18,7 @@ use Rattle.demands.specs.ByteFeed.{ByteFeed, hears, sent, delivered, act
 use Rattle.demands.specs.Demand3.{Reads, nothing, applies, refuses, runs, RunsOver, ran, Given, Demand3, quoteIn}
 use Rattle.demands.proofs.Reader.{reader, quotes-kept}
 use Rattle.demands.proofs.Starting.{began-wf}
-use Rattle.demands.proofs.Laying.{AllWhole, sent-whole, delivered-whole, walks-messages}
+use Rattle.demands.proofs.Laying.{AllComplete, sent-complete, delivered-complete, walks-messages}
 use Rattle.demands.proofs.Moments.{given-at}
 use Rattle.demands.proofs.Refused.{refused-changes-nothing, counted-steps, all-count}
 use Rattle.demands.proofs.Translating.{steps-join, steps-last, first-steps, second-steps, heard-acts, is-registered, given-feed}
@@ -50,19 +50,19 @@ reads-after {b = b} w (runs {ms = ms} {ns = ns} {c = c} p run counted) =
     let o = run .obeys (a .sound) in
     record { sound = o .wf; seen = o .next-view ∙ counted-steps counted ∙ ap (λ (v : View). stepsOf v ns) (a .seen) ∙ sym (steps-join (view b) ms ns) }
 
--- ---- any way of giving a reader whole messages that leaves the view that the rule says
+-- ---- any way of giving a reader complete messages that leaves the view that the rule says
 abbrev Faithful : (Book → List (List ℕ) → Book → Type 0) → Type 0
-Faithful Takes = (b : Book) (ms : List (List ℕ)) (r : Book) → Wf b → AllWhole ms → Takes b ms r → view r ≡ stepsOf (view b) ms
+Faithful Takes = (b : Book) (ms : List (List ℕ)) (r : Book) → Wf b → AllComplete ms → Takes b ms r → view r ≡ stepsOf (view b) ms
 
 module _ (Takes : Book → List (List ℕ) → Book → Type 0) (faithful : Faithful Takes) (b c : Book) where
   module _ {f : ByteFeed} (g : Given b c f) where
     first-quotes : {r : Book} → Takes b (sent f) r → (index : ℕ) → quoteIn r index ≡ asQuote (quote pillar reader (first pillar reader (view b) (feedOf f)) index)
     first-quotes {r = r} t index =
-        ap (quoteOf index) (faithful b (sent f) r (began-wf (g .first-began)) (sent-whole f (g .whole)) t ∙ first-steps (view b) f (g .applied))
+        ap (quoteOf index) (faithful b (sent f) r (began-wf (g .first-began)) (sent-complete f (g .complete)) t ∙ first-steps (view b) f (g .applied))
         ∙ quotes-kept (first pillar reader (view b) (feedOf f)) index
 
     second-view : {r : Book} → Takes c (delivered f) r → view r ≡ second pillar reader (view c) (feedOf f)
-    second-view {r = r} t = faithful c (delivered f) r (began-wf (g .second-began)) (delivered-whole f (g .whole)) t ∙ second-steps (view b) (view c) f (g .applied)
+    second-view {r = r} t = faithful c (delivered f) r (began-wf (g .second-began)) (delivered-complete f (g .complete)) t ∙ second-steps (view b) (view c) f (g .applied)
 
     second-quotes : {r : Book} → Takes c (delivered f) r → (index : ℕ) → quoteIn r index ≡ asQuote (quote pillar reader (second pillar reader (view c) (feedOf f)) index)
     second-quotes {r = r} t index =
@@ -103,7 +103,7 @@ pub demand-3-holds : (b c : Book) → Demand3 Reads b c
 demand-3-holds = demanded Reads (λ b ms r w a p. reads-after w p .seen)
 
 -- and from bytes: each is one run over the messages laid end to end
-run-reads : {b r : Book} {ms : List (List ℕ)} → AllWhole ms → RunsOver b ms r → Reads b ms r
+run-reads : {b r : Book} {ms : List (List ℕ)} → AllComplete ms → RunsOver b ms r → Reads b ms r
 run-reads {b = b} {ms = ms} a (ran p) = runs {ns = ms} nothing p (rw (walks-messages ms a) (all-count (view b) ms))
 
 pub demand-3-from-bytes : (b c : Book) → Demand3 RunsOver b c

@@ -25,7 +25,7 @@ use Rattle.book.proofs.Acting.{changes}
 use Rattle.book.proofs.Beginning.{fresh}
 use Rattle.book.proofs.Registering.{newHead, registers}
 use Rattle.demands.specs.Reader.{Effect, Registered}
-use Rattle.demands.specs.ByteFeed.{ByteFeed, sent, delivered, Whole, Applied, ClearsDelivered}
+use Rattle.demands.specs.ByteFeed.{ByteFeed, sent, delivered, Complete, Applied, ClearsDelivered}
 use Rattle.demands.specs.Demand3.{Began, Given}
 use Rattle.demands.specs.Demand3 as began
 use Rattle.demands.specs.Examples.{name, scale, HasABC, registered, viewABC, other, viewABCThenXYZ, viewXYZThenABC, withLosses, quotesAlong, alongLosses, last, pastTheLast, lastLost}
@@ -39,7 +39,7 @@ has-view (registered f s) = s .obeys (f .wf) .next-view ∙ ap (λ (v : View). r
 
 -- what is left to be seen of a feed
 pub record Fair (v : View) (f : ByteFeed) : Type 0 where
-  pub whole : Whole f
+  pub complete : Complete f
   pub applied : Applied v f
   pub clears : ClearsDelivered f
 
@@ -48,7 +48,7 @@ met v w f x same p q e d = record {
   first-began = p;
   second-began = q;
   same-symbols = λ i. rw (e, d) (same i);
-  whole = x .whole;
+  complete = x .complete;
   applied = rw e (x .applied);
   clears-delivered = x .clears;
 }
@@ -65,20 +65,20 @@ record AllFair : Type 0 where
   pub along : quotesAlong withLosses ≡ alongLosses
 
 all-fair : AllFair
-unfolding Whole Applied ClearsDelivered sent quotesAlong delivered quoteOf levelOf bestStep sharesAt fold sumBy value digits shapeOf faultBy faultOf reachBy reachOf readBy readBody readSized readShape readTyped readReached readOf first insert remove look placeOf symbolIn vacancyOf applyTo dealTo nameBad registerOf judged meets actOn meant stepOf stepsOf
+unfolding Complete Applied ClearsDelivered sent quotesAlong delivered quoteOf levelOf bestStep sharesAt fold sumBy value digits shapeOf faultBy faultOf reachBy reachOf readBy readBody readSized readShape readTyped readReached readOf first insert remove look placeOf symbolIn vacancyOf applyTo dealTo nameBad registerOf judged meets actOn meant stepOf stepsOf
 all-fair = record {
   with-losses = record {
-    whole = ((((((tt, refl), refl), refl), refl), refl), refl);
+    complete = ((((((tt, refl), refl), refl), refl), refl), refl);
     applied = ((((((tt, refl), refl), refl), refl), refl), refl);
     clears = ((tt, omega arith), omega arith);
   };
   to-two = record {
-    whole = ((((((tt, refl), refl), refl), refl), refl), refl);
+    complete = ((((((tt, refl), refl), refl), refl), refl), refl);
     applied = ((((((tt, refl), refl), refl), refl), refl), refl);
     clears = ((tt, omega arith), omega arith);
   };
-  past-the-last = record { whole = ((((tt, refl), refl), refl), refl); applied = ((((tt, refl), refl), refl), refl); clears = tt };
-  last-lost = record { whole = ((((tt, refl), refl), refl), refl); applied = ((((tt, refl), refl), refl), refl); clears = (tt, omega arith) };
+  past-the-last = record { complete = ((((tt, refl), refl), refl), refl); applied = ((((tt, refl), refl), refl), refl); clears = tt };
+  last-lost = record { complete = ((((tt, refl), refl), refl), refl); applied = ((((tt, refl), refl), refl), refl); clears = (tt, omega arith) };
   along = refl;
 }
 

@@ -12,37 +12,37 @@ use Rattle.wire.specs.Reading.{msgSize, reachOf, reachBy}
 use Rattle.wire.proofs.Cases.{reached, reach-size}
 use Rattle.book.proofs.Parts.{reach-more}
 use Rattle.book.specs.Walk.{walkBy, walkFor, walkOf}
-use Rattle.demands.specs.ByteFeed.{ByteFeed, begins, hears, loses, sent, delivered, joined, WholeMessage, Whole}
+use Rattle.demands.specs.ByteFeed.{ByteFeed, begins, hears, loses, sent, delivered, joined, CompleteMessage, Complete}
 
-abbrev pub AllWhole : List (List ℕ) → Type 0
-AllWhole [] = Unit {0}
-AllWhole (m ∷ ms) = WholeMessage m × AllWhole ms
+abbrev pub AllComplete : List (List ℕ) → Type 0
+AllComplete [] = Unit {0}
+AllComplete (m ∷ ms) = CompleteMessage m × AllComplete ms
 
-all-whole-more : (ms : List (List ℕ)) (m : List ℕ) → AllWhole ms → WholeMessage m → AllWhole (ms ++ m ∷ [])
-all-whole-more [] m a w = (w, tt)
-all-whole-more (x ∷ ms) m a w = (a .0, all-whole-more ms m (a .1) w)
+all-complete-more : (ms : List (List ℕ)) (m : List ℕ) → AllComplete ms → CompleteMessage m → AllComplete (ms ++ m ∷ [])
+all-complete-more [] m a w = (w, tt)
+all-complete-more (x ∷ ms) m a w = (a .0, all-complete-more ms m (a .1) w)
 
-pub sent-whole : (f : ByteFeed) → Whole f → AllWhole (sent f)
-unfolding Whole sent
-sent-whole begins w = tt
-sent-whole (hears f m) w = all-whole-more (sent f) m (sent-whole f (w .0)) (w .1)
-sent-whole (loses f m) w = all-whole-more (sent f) m (sent-whole f (w .0)) (w .1)
+pub sent-complete : (f : ByteFeed) → Complete f → AllComplete (sent f)
+unfolding Complete sent
+sent-complete begins w = tt
+sent-complete (hears f m) w = all-complete-more (sent f) m (sent-complete f (w .0)) (w .1)
+sent-complete (loses f m) w = all-complete-more (sent f) m (sent-complete f (w .0)) (w .1)
 
-pub delivered-whole : (f : ByteFeed) → Whole f → AllWhole (delivered f)
-unfolding Whole delivered
-delivered-whole begins w = tt
-delivered-whole (hears f m) w = all-whole-more (delivered f) m (delivered-whole f (w .0)) (w .1)
-delivered-whole (loses f m) w = delivered-whole f (w .0)
+pub delivered-complete : (f : ByteFeed) → Complete f → AllComplete (delivered f)
+unfolding Complete delivered
+delivered-complete begins w = tt
+delivered-complete (hears f m) w = all-complete-more (delivered f) m (delivered-complete f (w .0)) (w .1)
+delivered-complete (loses f m) w = delivered-complete f (w .0)
 
 -- the bytes that a message reaches over, alone
-whole-part : (s : List ℕ) (n : ℕ) → reachOf s ≡ done n → WholeMessage (take n s)
-whole-part s n e =
+complete-part : (s : List ℕ) (n : ℕ) → reachOf s ≡ done n → CompleteMessage (take n s)
+complete-part s n e =
     let r = reached s n e in
     let long : length (take n s) ≡ n = length-take-le n s (r .there) in
     let size : msgSize (take n s) ≡ n = ap value (take-take 2 n s (omega (arith, r .least))) ∙ r .size in
     reach-size (take n s) (omega (arith, r .least)) (omega (arith, r .least)) (omega arith) ∙ ap done (size ∙ sym long)
 
-walk-joined : (ms : List (List ℕ)) → AllWhole ms → (fuel : ℕ) (s : List ℕ) (at : ℕ) → drop at s ≡ joined ms → length (joined ms) < fuel → walkFor fuel s at .messages ≡ ms
+walk-joined : (ms : List (List ℕ)) → AllComplete ms → (fuel : ℕ) (s : List ℕ) (at : ℕ) → drop at s ≡ joined ms → length (joined ms) < fuel → walkFor fuel s at .messages ≡ ms
 unfolding walkFor joined reachOf reachBy
 walk-joined [] w zero s at e h = refl
 walk-joined [] w (suc fuel) s at e h = rw e
@@ -56,19 +56,19 @@ walk-joined (m ∷ ms) w (suc fuel) s at e h =
     ap (λ (x : Outcome ℕ). walkBy x s at (λ e. walkFor fuel s e) .messages) reach
     ∙ (λ i. first i ∷ walk-joined ms (w .1) fuel s (at + length m) rest (omega (arith, h, r .least)) i)
 
-pub walks-messages : (ms : List (List ℕ)) → AllWhole ms → walkOf (joined ms) 0 .messages ≡ ms
+pub walks-messages : (ms : List (List ℕ)) → AllComplete ms → walkOf (joined ms) 0 .messages ≡ ms
 unfolding walkOf
 walks-messages ms w = walk-joined ms w (suc (length (joined ms))) (joined ms) 0 refl (omega arith)
 
--- ---- and every stream is such: what a walk passes are whole messages, which laid end to end, with what is left, are the stream
-walked-whole : (fuel : ℕ) (s : List ℕ) (at : ℕ) → AllWhole (walkFor fuel s at .messages)
+-- ---- and every stream is such: what a walk passes are complete messages, which laid end to end, with what is left, are the stream
+walked-complete : (fuel : ℕ) (s : List ℕ) (at : ℕ) → AllComplete (walkFor fuel s at .messages)
 unfolding walkFor
-walked-whole zero s at = tt
-walked-whole (suc fuel) s at = go (walked-whole fuel s) (reachOf (drop at s)) refl
+walked-complete zero s at = tt
+walked-complete (suc fuel) s at = go (walked-complete fuel s) (reachOf (drop at s)) refl
   where
-    go : ((e : ℕ) → AllWhole (walkFor fuel s e .messages)) → (x : Outcome ℕ) → reachOf (drop at s) ≡ x → AllWhole (walkBy x s at (λ e. walkFor fuel s e) .messages)
+    go : ((e : ℕ) → AllComplete (walkFor fuel s e .messages)) → (x : Outcome ℕ) → reachOf (drop at s) ≡ x → AllComplete (walkBy x s at (λ e. walkFor fuel s e) .messages)
     go ih (refused a) e = tt
-    go ih (done n) e = (whole-part (drop at s) n e, ih (at + n))
+    go ih (done n) e = (complete-part (drop at s) n e, ih (at + n))
 
 walked-joined : (fuel : ℕ) (s : List ℕ) (at : ℕ) → joined (walkFor fuel s at .messages) ++ drop (walkFor fuel s at .at) s ≡ drop at s
 unfolding walkFor joined
@@ -84,9 +84,9 @@ walked-joined (suc fuel) s at = go (walked-joined fuel s) (reachOf (drop at s))
         ∙ take-append-drop n (drop at s)
 
 pub record Laid (s : List ℕ) (at : ℕ) : Type 0 where
-  pub whole : AllWhole (walkOf s at .messages)
+  pub complete : AllComplete (walkOf s at .messages)
   pub stream : joined (walkOf s at .messages) ++ drop (walkOf s at .at) s ≡ drop at s
 
 pub every-stream : (s : List ℕ) (at : ℕ) → Laid s at
 unfolding walkOf
-every-stream s at = record { whole = walked-whole (suc (length s)) s at; stream = walked-joined (suc (length s)) s at }
+every-stream s at = record { complete = walked-complete (suc (length s)) s at; stream = walked-joined (suc (length s)) s at }

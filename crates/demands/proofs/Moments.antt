@@ -9,29 +9,29 @@ use Rattle.feed.specs.Demand3 as feed
 use Rattle.feed.proofs.Words as words
 use Rattle.book.specs.declared.Book.{Book}
 use Rattle.demands.specs.Reader.{Effect}
-use Rattle.demands.specs.ByteFeed.{ByteFeed, begins, hears, loses, Moment, now, then-hears, then-loses, Whole, Applied, ClearsDelivered, actIn, feedOf}
+use Rattle.demands.specs.ByteFeed.{ByteFeed, begins, hears, loses, Moment, now, then-hears, then-loses, Complete, Applied, ClearsDelivered, actIn, feedOf}
 use Rattle.demands.specs.Demand3.{Given, Standing, none-lost, after-loss, until-clear}
 
 module _ (b c : Book) where
   -- what is given of a feed is given of its every moment
   before-hears : {f : ByteFeed} {m : List ℕ} → Given b c (hears f m) → Given b c f
-  unfolding Whole Applied ClearsDelivered
+  unfolding Complete Applied ClearsDelivered
   before-hears g = record {
     first-began = g .first-began;
     second-began = g .second-began;
     same-symbols = g .same-symbols;
-    whole = g .whole .0;
+    complete = g .complete .0;
     applied = g .applied .0;
     clears-delivered = g .clears-delivered;
   }
 
   before-loses : {f : ByteFeed} {m : List ℕ} → Given b c (loses f m) → Given b c f
-  unfolding Whole Applied ClearsDelivered
+  unfolding Complete Applied ClearsDelivered
   before-loses g = record {
     first-began = g .first-began;
     second-began = g .second-began;
     same-symbols = g .same-symbols;
-    whole = g .whole .0;
+    complete = g .complete .0;
     applied = g .applied .0;
     clears-delivered = g .clears-delivered .0;
   }

@@ -43,13 +43,13 @@ pub data Moment (h : ByteFeed) : ByteFeed → Type 0 where
 
 -- ---- what is asked of it
 -- each message has as many bytes as its Msg Size says
-abbrev pub WholeMessage : List ℕ → Type 0
-WholeMessage m = reachOf m ≡ done (length m)
+abbrev pub CompleteMessage : List ℕ → Type 0
+CompleteMessage m = reachOf m ≡ done (length m)
 
-unfoldable pub Whole : ByteFeed → Type 0
-Whole begins = Unit {0}
-Whole (hears f m) = Whole f × WholeMessage m
-Whole (loses f m) = Whole f × WholeMessage m
+unfoldable pub Complete : ByteFeed → Type 0
+Complete begins = Unit {0}
+Complete (hears f m) = Complete f × CompleteMessage m
+Complete (loses f m) = Complete f × CompleteMessage m
 
 -- a reader that receives all of it applies it without one refusal
 abbrev pub IsDone : View → List (List ℕ) → List ℕ → Type 0

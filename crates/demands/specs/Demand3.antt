@@ -23,7 +23,7 @@ use Rattle.book.specs.declared.quote.Quote.{Quote}
 use Rattle.book.specs.declared.walk.Moved.{Moved}
 use Rattle.book.specs.declared.walk.Ran.{Ran}
 use Rattle.demands.specs.Reader.{pillar, Effect, Registered}
-use Rattle.demands.specs.ByteFeed.{ByteFeed, hears, sent, delivered, joined, Moment, Whole, Applied, ClearsDelivered, actIn, feedOf}
+use Rattle.demands.specs.ByteFeed.{ByteFeed, hears, sent, delivered, joined, Moment, Complete, Applied, ClearsDelivered, actIn, feedOf}
 
 -- ---- the states of a reader, by the promises of the calls that hand them back
 -- a new state with symbols registered, in any order and whatever registering answers
@@ -60,7 +60,7 @@ pub record Given (b c : Book) (f : ByteFeed) : Type 0 where
   pub first-began : Began b
   pub second-began : Began c
   pub same-symbols : (index : ℕ) → Registered index (view b) ↔ Registered index (view c)
-  pub whole : Whole f
+  pub complete : Complete f
   pub applied : Applied (view b) f
   pub clears-delivered : ClearsDelivered f
 

@@ -1,7 +1,7 @@
 -- What the program prints: each case is one law, and each text has room in a line under construction.
-use mathlib.Core.Path.{_≡_, refl, ap, sym, _∙_}
+use mathlib.Core.Path.{_≡_, refl}
 use mathlib.Core.List.{List, [], _∷_, _++_}
-use mathlib.Core.Bool.{Bool, true, false}
+use mathlib.Core.Bool.{true, false}
 use Prim.Native.Nat.{ℕ, _+_, _≤_, _<_}
 use native.Mathlib.Nat.{le-trans}
 use native.Mathlib.Omega.{arith}
@@ -10,7 +10,7 @@ use denote.Enum.Declared.{tagOf}
 use types.Run.{OneOf, miss}
 use lib.ListN.{length}
 use Rattle.wire.proofs.Answer as answer
-use Rattle.wire.specs.Outcome.{Outcome, done}
+use Rattle.wire.specs.Outcome.{done}
 use Rattle.wire.specs.Reading.{Read, answeredAs}
 use Rattle.wire.specs.Message.{typeOf}
 use Rattle.wire.specs.declared.Answer.{Answer}
@@ -21,7 +21,7 @@ use Rattle.book.specs.declared.quote.Quote.{Quote}
 use Rattle.page.specs.Columns.{number, rendered, columnsOf}
 use Rattle.page.specs.Held.{room}
 use Rattle.page.specs.Printing.{hasNoLine, told}
-use Rattle.page.specs.Printout.{e, q, refusal, sequenceOf, doneText, passedText, endText, levelColumns, quoteColumns, quoteText}
+use Rattle.page.specs.Printout.{e, q, refusal, sequenceOf, doneText, passedText, endText, levelColumns, quoteText}
 use Rattle.page.proofs.Lengths.{total, widths, line-within-widths}
 
 -- ---- room

@@ -17,10 +17,10 @@ use wire::Answer;
 ghost use mathlib.Core.Path.{_≡_};
 ghost use Rattle.wire.specs.Reading.{readOf};
 ghost use Rattle.book.specs.State.{Wf};
-ghost use Rattle.page.specs.Columns.{further, joined, rendered};
-ghost use Rattle.page.specs.Held.{held, Adds, Holds};
+ghost use Rattle.page.specs.Columns.{further, rendered};
+ghost use Rattle.page.specs.Held.{held, Adds};
 ghost use Rattle.page.specs.Printing.{printed, laid};
-ghost use Rattle.page.specs.Printout.{q, refusal, passedText, endText, levelColumns, quoteText, quoteTextOf};
+ghost use Rattle.page.specs.Printout.{refusal, passedText, endText, levelColumns, quoteText, quoteTextOf};
 
 // Of a message with its answer and its place in the file: the line of a done 100 or 111, `R,answer,place` of a refused one, nothing of any other.
 pub fn passed_text(

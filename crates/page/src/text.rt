@@ -8,7 +8,7 @@ ghost use Rattle.page.specs.Columns.{next, number, price, clock, bytes, 
 ghost use Rattle.page.specs.Held.{held, Adds};
 
 // Room for a line, or for a quote, at any scale that a byte can hold. At a scale that can be registered a line has at most 111 bytes.
-pub(crate) const ROOM: usize = 640;
+pub const ROOM: usize = 640;
 
 // A line under construction: what it holds is its first len bytes.
 pub(crate) struct Line {

@@ -2,31 +2,31 @@
 use book::Book;
 use libc::STDOUT_FILENO;
 use page::Printed;
+use page::ROOM;
 ghost use mathlib.Core.Path.{_≡_};
 ghost use lib.ListN.{length};
+ghost use Rattle.page.specs.Held.{room};
 
 // The local second of the day that every line carries.
 const SECOND: u32 = 34200;
 
-// Room for the longest text of a message, and for a quote at any scale.
-const ROOM: usize = 640;
-
-fn room() -> [u8; ROOM]
-    ensures { λ r. ⌜ 640 ≡ length r ⌝ }
+// Room for any text that the page makes.
+fn blank() -> [u8; ROOM]
+    ensures { λ r. ⌜ room ≡ length r ⌝ }
 {
     [0; ROOM]
 }
 
 // The text of a message that was passed over.
 pub(crate) fn print_passed(book: Book, message: &[u8], answer: u8, place: u64) -> bool {
-    let mut out = room();
+    let mut out = blank();
     let p = page::passed_text(book, message, answer, place, SECOND, &mut out);
     written(&out, p)
 }
 
 // `E` with the answer that stopped the walk, then the quote.
 pub(crate) fn print_end(book: Book, index: u32, answer: u8) -> bool {
-    let mut out = room();
+    let mut out = blank();
     let e = page::end_text(answer, &mut out);
     if !written(&out, e) {
         return false;

@@ -5,7 +5,7 @@ use mathlib.Core.Bool.{Bool, true, false}
 use Prim.Native.Nat.{ℕ, _≤_, _<_}
 use native.Mathlib.Omega.{arith}
 use lib.ListN.{length, drop}
-use lib.Dec.{ltb, eqb}
+use lib.Dec.{ltb}
 use borrow.Author.Tests.{lt-ltb, le-ltb, eq-eqb, ne-eqb, ltb-false}
 use Rattle.wire.specs.declared.table.Layout.{Layout}
 use Rattle.wire.specs.declared.table.Shape.{Shape}
@@ -17,9 +17,9 @@ use Rattle.wire.specs.Table.{shapeOf}
 use Rattle.wire.specs.Fields.{fieldsAt, faultOf}
 use Rattle.wire.specs.Message.{messageOf, fieldsOf, typeOf}
 use Rattle.wire.specs.Reading as reading
-use Rattle.wire.specs.Reading.{msgSize, msgType, reachBy, reachOf, Read, readBy, readBody, readSized, readShape, readTyped, readReached, readOf}
+use Rattle.wire.specs.Reading.{msgSize, msgType, reachBy, reachOf, readBy, readBody, readSized, readShape, readTyped, readReached, readOf}
 use Rattle.wire.specs.Writing as writing
-use Rattle.wire.specs.Writing.{Write, imageOf, writeSized, writeBy, writeShape, writeOf}
+use Rattle.wire.specs.Writing.{imageOf, writeSized, writeBy, writeShape, writeOf}
 
 -- ---- how far a message reaches
 module _ (s : List ℕ) where

@@ -6,19 +6,18 @@ use Prim.Native.Nat.{ℕ, _-_, _≤_}
 use native.Mathlib.Omega.{arith}
 use lib.ListN.{length, take, drop}
 use lib.Dec.{eqb, ltb}
-use borrow.Author.Tests.{eqb-true, ltb-false}
+use borrow.Author.Tests.{eqb-true}
 use Rattle.wire.specs.declared.table.Layout.{Layout}
 use Rattle.wire.specs.declared.table.Shape.{Shape}
-use Rattle.wire.specs.declared.fields.Fields.{Fields}
 use Rattle.wire.specs.declared.fields.Fault.{Fault}
 use Rattle.wire.specs.declared.Message.{Message}
 use Rattle.wire.specs.Outcome.{Outcome, done, refused}
-use Rattle.wire.specs.Bytes.{valueAt, padded, part, plainRoom}
+use Rattle.wire.specs.Bytes.{padded, part, plainRoom}
 use Rattle.wire.specs.Table.{shapeOf, table}
 use Rattle.wire.specs.Fields.{fieldsAt, faultOf, endsOf, valuesOf}
 use Rattle.wire.specs.Message.{messageOf, fieldsOf, typeOf}
 use Rattle.wire.specs.Reading.{msgSize, msgType, reachOf, Read, readBy, readBody, readSized, readShape, readTyped, readReached, readOf}
-use Rattle.wire.specs.Writing.{Write, imageOf, writeSized, writeBy, writeShape, writeOf}
+use Rattle.wire.specs.Writing.{imageOf, writeSized, writeBy, writeShape, writeOf}
 use Rattle.wire.specs.RoundTrip.{InRange, Bytes, arrayWidth, sameMessage, ReadsBack, ReservedZero, WritesBack}
 use Rattle.wire.proofs.Numbers.{value-empty}
 use Rattle.wire.proofs.Layouts.{AllRows, by-rows, layout-sane}

@@ -3,7 +3,7 @@ use Prim.Native.Nat.{ℕ, _-_, _^_, _≤_, _<_}
 use mathlib.Core.List.{List, _++_}
 use mathlib.Core.Path.{_≡_}
 use lib.ListN.{length, take, drop, getD}
-use Rattle.wire.specs.Outcome.{Outcome, done}
+use Rattle.wire.specs.Outcome.{done}
 use Rattle.wire.specs.Bytes.{valueAt, padded}
 use Rattle.wire.specs.Table.{shapeOf}
 use Rattle.wire.specs.Message.{typeOf}

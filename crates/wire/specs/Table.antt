@@ -1,10 +1,8 @@
 -- Document 01, "Message layouts": the table, nearly as it is printed, and the layout that it gives for a type number.
-use Prim.Native.Nat.{ℕ, _+_, _≤_}
-use mathlib.Core.Path.{_≡_}
+use Prim.Native.Nat.{ℕ, _+_}
 use mathlib.Core.List.{List, [], _∷_}
 use mathlib.Core.Bool.{Bool, true, false, cond, _&&_}
 use lib.Dec.{eqb, leb, T}
-use Rattle.wire.specs.Bytes.{plainRoom}
 use Rattle.wire.specs.declared.table.Kind.{Kind}
 use Rattle.wire.specs.declared.table.Kind.the-variants.{Add, Modify, Delete, Execute, Replace, Imbalance, NonDisplayed, Cross, TradeCancel, CrossCorrection, Retail, Clear, Status}
 use Rattle.wire.specs.declared.table.Layout.{Layout}

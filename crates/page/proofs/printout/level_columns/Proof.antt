@@ -1,6 +1,5 @@
 -- By the level: two empty columns, or a price and a number.
 use mathlib.Core.Path.{_≡_, sym, subst}
-use mathlib.Core.List.{List}
 use Prim.Native.Nat.{ℕ}
 use Rattle.book.specs.declared.quote.Level.{Level}
 use Rattle.page.specs.Columns.{further}

@@ -1,12 +1,10 @@
 -- By the answer, by what was read and by its type: each case is one law of the printout.
 use mathlib.Core.Path.{_≡_, ap, sym, _∙_}
-use mathlib.Core.List.{List, []}
-use mathlib.Core.Bool.{true, false}
+use mathlib.Core.List.{List}
 use Prim.Native.Nat.{ℕ}
 use denote.Ref.{now}
-use Rattle.wire.specs.Outcome.{Outcome, done}
-use Rattle.wire.specs.Reading.{Read, readOf, answeredAs, decodedAs}
-use Rattle.wire.specs.Message.{typeOf}
+use Rattle.wire.specs.Outcome.{done}
+use Rattle.wire.specs.Reading.{Read, readOf, answeredAs}
 use Rattle.wire.specs.declared.Answer.{Answer}
 use Rattle.wire.specs.declared.Message.{Message}
 use Rattle.book.specs.State.{view, symbolIn}

@@ -1,8 +1,8 @@
 -- By the answer: the number that refuses the quote, or the columns of both levels; either has room.
 use Rattle.page.specs.Columns.{rendered, further}
 use Rattle.page.specs.Printout.{levelColumns}
-use mathlib.Core.Path.{_≡_, sym, ap, _∙_, subst}
-use mathlib.Core.List.{List, _∷_, [], _++_}
+use mathlib.Core.Path.{sym, _∙_, subst}
+use mathlib.Core.List.{List, _++_}
 use Prim.Native.Nat.{ℕ}
 use Rattle.page.specs.Held.{Adds}
 use Rattle.page.proofs.Columns.{further-append}

@@ -1,9 +1,8 @@
 -- The quote and the scale are what the book promises of its view.
-use mathlib.Core.Path.{_≡_, ap, _∙_}
+use mathlib.Core.Path.{ap, _∙_}
 use mathlib.Core.List.{List}
 use Prim.Native.Nat.{ℕ}
 use denote.Ref.{now}
-use Rattle.book.specs.declared.symbols.Registered.{Registered}
 use Rattle.page.specs.Printing.{laid}
 use Rattle.page.specs.Printout.{quoteText}
 use borrow.Author.Needs.{needs}

@@ -1,8 +1,5 @@
 -- The loop keeps i at most 53, the length of the array.
 use Prim.Native.Nat.{_≤_, _-_}
-use native.Mathlib.Omega.{arith}
-use lib.ListN.{length}
-use mathlib.Core.Path.{_≡_}
 use borrow.Author.Needs.{needs}
 use Rattle.vectors.proofs.given.plain_at.Statement.{statement}
 use Rattle.vectors.proofs.given.plain_at.Tie as tie

@@ -1,14 +1,12 @@
 -- After i turns the array is the first i bytes of the part, pasted over zeros.
-use Prim.Native.Nat.{ℕ, _+_, _*_, _-_, _^_, _<_, _≤_, _/_, _%_}
-use mathlib.Core.Path.{_≡_, sym, ap, _∙_, refl}
-use mathlib.Core.List.{List, _++_}
+use Prim.Native.Nat.{_-_, _≤_}
+use mathlib.Core.Path.{_≡_, _∙_, refl}
 use native.Mathlib.Omega.{arith}
 use native.Mathlib.Numerals.{add-one}
-use lib.ListN.{length, getD, take, drop, set, replicate, length-set, length-replicate}
-use lib.Seq.{paste, paste-zero, paste-suc, length-slice}
-use borrow.Author.Needs.{needs}
+use lib.ListN.{replicate}
+use lib.Seq.{paste, length-slice}
 use denote.Ref.{now}
-use Rattle.wire.specs.Bytes.{splice, part, padded}
+use Rattle.wire.specs.Bytes.{part}
 use Rattle.wire.proofs.ByteArrays.{part-at, pasted-is-padded, paste-next}
 use Rattle.wire.proofs.bytes.plain_at.Statement.{statement}
 use Rattle.wire.proofs.bytes.plain_at.Tie as tie

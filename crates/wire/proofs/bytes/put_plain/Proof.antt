@@ -1,15 +1,12 @@
 -- After i turns the buffer is the first i bytes of the array, pasted over it at a.
-use Prim.Native.Nat.{ℕ, _+_, _*_, _-_, _^_, _<_, _≤_, _/_, _%_}
-use mathlib.Core.Path.{_≡_, sym, ap, _∙_, refl}
-use mathlib.Core.List.{List, _++_}
+use Prim.Native.Nat.{_+_, _-_, _≤_}
+use mathlib.Core.Path.{_≡_, _∙_, refl}
 use native.Mathlib.Omega.{arith}
 use native.Mathlib.Numerals.{add-one}
-use lib.ListN.{length, getD, take, drop, set, replicate, length-set, length-replicate}
-use lib.Seq.{paste, paste-zero, paste-suc, length-slice}
+use lib.ListN.{length, getD, length-set}
+use lib.Seq.{paste, paste-zero, paste-suc}
 use borrow.Author.Needs.{needs}
 use denote.Ref.{now}
-use Rattle.wire.specs.Bytes.{splice, part, padded}
-use Rattle.wire.proofs.ByteArrays.{part-at, pasted-is-padded}
 use Rattle.wire.proofs.bytes.put_plain.Statement.{statement}
 use Rattle.wire.proofs.bytes.put_plain.Tie as tie
 

@@ -1,10 +1,9 @@
 -- After some turns the bytes passed, the digits still to come and what lies behind are the result (`digits-next`).
-use Prim.Native.Nat.{ℕ, _+_, _*_, _-_, _^_, _<_, _≤_, _/_, _%_}
-use mathlib.Core.Path.{_≡_, sym, ap, _∙_, refl}
-use mathlib.Core.List.{List, _++_}
+use Prim.Native.Nat.{_+_, _-_, _≤_, _%_}
+use mathlib.Core.Path.{_≡_, _∙_, refl}
+use mathlib.Core.List.{_++_}
 use native.Mathlib.Omega.{arith}
-use native.Mathlib.Nat.{le-antisymm}
-use lib.ListN.{length, getD, take, drop, length-set, take-append-drop}
+use lib.ListN.{length, take, drop, length-set}
 use lib.Seq.{drop-set-lt}
 use borrow.Author.Needs.{needs}
 use denote.Ref.{now}

@@ -1,5 +1,5 @@
 -- The tests come in the order of the definition's arguments.
-use mathlib.Core.Path.{_≡_, sym, _∙_}
+use mathlib.Core.Path.{sym, _∙_}
 use borrow.Author.Needs.{needs}
 use borrow.Author.Tests.{le-leb, lt-leb, lt-ltb, le-ltb}
 use Rattle.wire.specs.Fields.{faultOf, faultBy}

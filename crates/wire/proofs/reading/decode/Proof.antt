@@ -3,11 +3,11 @@ use mathlib.Core.Path.{_≡_, sym, ap, _∙_, subst}
 use native.Mathlib.Omega.{arith}
 use denote.Ref.{now}
 use Rattle.wire.specs.declared.Reach.{Reach}
-use Rattle.wire.specs.Outcome.{done, refused}
+use Rattle.wire.specs.Outcome.{refused}
 use Rattle.wire.specs.Reading.{reachedAs, reachOf, decodedAs, Read, readOf}
 use Rattle.wire.specs.RoundTrip.{WritesBack}
 use Rattle.wire.proofs.RoundTrip.{write-what-was-read}
-use Rattle.wire.proofs.Cases.{Reached, reached, read-unreached, read-reached}
+use Rattle.wire.proofs.Cases.{reached, read-unreached, read-reached}
 use borrow.Author.Needs.{needs}
 use Rattle.wire.proofs.reading.decode.Statement.{statement}
 use Rattle.wire.proofs.reading.decode.Tie as tie

@@ -1,5 +1,5 @@
 -- Each arm is a row of the table, and every other number differs from all of their numbers.
-use mathlib.Core.Path.{_≡_, sym, ap, _∙_}
+use mathlib.Core.Path.{sym, ap}
 use borrow.Author.Tests.{ne-eqb}
 use Rattle.wire.specs.Table.{shapeOf}
 use Rattle.wire.proofs.table.shape_of.Statement.{statement}

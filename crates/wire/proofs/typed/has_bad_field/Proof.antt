@@ -1,11 +1,10 @@
 -- By the type's shape and the first bad field.
 use mathlib.Core.Path.{_≡_, sym, ap, _∙_}
-use mathlib.Core.Bool.{true, false}
 use Rattle.wire.specs.declared.table.Shape.{Shape}
 use Rattle.wire.specs.declared.fields.Fault.{Fault}
 use Rattle.wire.specs.Table.{shapeOf}
 use Rattle.wire.specs.Fields.{faultOf}
-use Rattle.wire.specs.Message.{fieldsOf, typeOf, isFault, badUnder, hasBadField}
+use Rattle.wire.specs.Message.{typeOf, isFault, badUnder, hasBadField}
 use borrow.Author.Needs.{needs}
 use Rattle.wire.proofs.typed.has_bad_field.Statement.{statement}
 use Rattle.wire.proofs.typed.has_bad_field.Tie as tie

@@ -1,5 +1,5 @@
 -- Each arm is a clause of the definition.
-use mathlib.Core.Path.{_≡_, sym, ap, _∙_}
+use mathlib.Core.Path.{sym, ap}
 use Rattle.wire.specs.Message.{messageOf}
 use Rattle.wire.specs.declared.table.Kind.{Kind}
 use borrow.Author.Needs.{needs}

@@ -1,5 +1,5 @@
 -- The numbers, the array and the last byte, stored in turn, are the bytes of the message (`laid-is-image`).
-use mathlib.Core.Path.{_≡_, sym, ap, _∙_}
+use mathlib.Core.Path.{_≡_, _∙_}
 use denote.Ref.{now}
 use lib.ListN.{length}
 use Rattle.wire.specs.Bytes.{plainRoom}
