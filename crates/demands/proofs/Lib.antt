@@ -8,5 +8,6 @@ pub mod Refused
 pub mod Demand1
 pub mod Demand2
 pub mod Demand3
+pub mod Clauses
 pub mod OneOutcome
 pub mod Examples

@@ -5,6 +5,7 @@
 // | demand 1: the numbers of each call, and what a refusal leaves | specs/Demand1 | demand-1-holds |
 // | demand 2: levels, effects, isolation, case D's rule; round trips | specs/Demand2 | demand-2-holds, round-trips |
 // | demand 3: over views; by any calls; from bytes | specs/Demand3 | demand-3-over-views, demand-3-holds, demand-3-from-bytes |
+// | demand 3 clause by clause, in the customer's order | specs/Demand3 | nothing-lost, after-a-loss-as-just-before, then-refused-until-a-clear, from-that-clear-on |
 // | that one of its clauses applies at every moment | specs/Demand3 | every-moment, given-at |
 // | that its premise is met, with losses and at the last number | specs/Examples | given-with-losses, given-in-either-order, given-past-the-last, given-last-lost |
 // | that a message refused with 1 to 5 acts as a lost one | proofs/Refused | refused-changes-nothing, refused-acts-as-lost |

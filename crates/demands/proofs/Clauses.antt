@@ -1,0 +1,38 @@
+-- Demand 3 clause by clause, in the order of document 00: each is a clause of `demand-3-holds`, at a moment f of the feed at which both readers stand.
+use mathlib.Core.Bool.{false}
+use mathlib.Core.List.{List}
+use mathlib.Core.Path.{_≡_}
+use Prim.Native.Nat.{ℕ}
+use Rattle.wire.specs.Reading.{readOf}
+use Rattle.feed.specs.Reader.{indexOf, clear}
+use Rattle.feed.specs.Feed.{Feed, _▷_, heard, phase}
+use Rattle.feed.specs.Book.{bookOf}
+use Rattle.feed.specs.Demand3.{NoneLost, AfterLoss, UntilClear, Since, NotLost, answered}
+use Rattle.book.specs.State.{view}
+use Rattle.book.specs.Step.{stepOf}
+use Rattle.book.specs.Quote.{noQuote, quotedIf}
+use Rattle.book.specs.declared.Book.{Book}
+use Rattle.demands.specs.Reader.{pillar, Effect, Registered}
+use Rattle.demands.specs.ByteFeed.{ByteFeed, hears, sent, Moment, actIn, feedOf}
+use Rattle.demands.specs.Demand3.{Reads, Given, Now, quoteIn}
+use Rattle.demands.proofs.Demand3.{demand-3-holds}
+
+module _ (b c : Book) (f : ByteFeed) (first second : Book) (at : Now Reads b c f first second) (index : ℕ) where
+  pub nothing-lost : NoneLost index (feedOf f) → quoteIn second index ≡ quoteIn first index
+  nothing-lost = demand-3-holds b c f first second at .nothing-lost index
+
+  pub nothing-lost-quotes-the-book : Registered index (view b) → NoneLost index (feedOf f) → quoteIn second index ≡ quotedIf false (bookOf pillar index (feedOf f))
+  nothing-lost-quotes-the-book = demand-3-holds b c f first second at .quotes-the-book index
+
+  pub after-a-loss-as-just-before : {h : ByteFeed} {before : Book} → Moment h f → Reads b (sent h) before → AfterLoss index (feedOf h) (feedOf f) → quoteIn second index ≡ quoteIn before index
+  after-a-loss-as-just-before = demand-3-holds b c f first second at .after-a-loss index
+
+  pub then-refused-until-a-clear : UntilClear index (feedOf f) → quoteIn second index ≡ noQuote 8
+  then-refused-until-a-clear = demand-3-holds b c f first second at .refused-until-a-clear index
+
+  pub from-that-clear-on : {next : ℕ} {h : Feed Effect} → Since (NotLost index) (h ▷ heard (clear index next)) (feedOf f) → quoteIn second index ≡ quoteIn first index
+  from-that-clear-on = demand-3-holds b c f first second at .from-that-clear-on index
+
+pub answered-0-then-7-then-8 : (b c : Book) (f : ByteFeed) (first second : Book) → Now Reads b c f first second → (m : List ℕ) → Given b c (hears f m) →
+    stepOf (view second) (readOf m) .answer ≡ answered (phase (indexOf (actIn m)) (feedOf f)) (actIn m)
+answered-0-then-7-then-8 b c f first second at = demand-3-holds b c f first second at .answers
