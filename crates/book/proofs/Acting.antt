@@ -9,7 +9,7 @@ use borrow.Author.Tests.{ltb-false}
 use lib.Dec.{ltb}
 use lib.ListN.{getD, set}
 use lib.Seq.{set-getD}
-use Rattle.feed.specs.Reader.{Fit, Act, numbered, indexOf}
+use Rattle.feed.specs.Reader.{Fit, Ruling, unchanged, made-stale, ruled, Act, numbered, indexOf}
 use denote.Enum.Declared.{tagOf}
 use types.Run.{OneOf, miss}
 use Rattle.wire.specs.Outcome.{numberOf}
@@ -20,14 +20,13 @@ use Rattle.wire.proofs.Answer as answers
 use Rattle.book.specs.State.{symbols, numbers, Symbol, View, headAt, ordersAt, symbolAt, seen, view, placeOf, Wf}
 use Rattle.book.specs.Rules.{applyTo}
 use Rattle.book.specs.Record.{dealOf}
-use Rattle.book.specs.Step.{unchanged, madeStale, judged, meets, Next, refusing, put, actOn, meant, stepOn}
-use Rattle.book.specs.Promises.{unchanging, Obeys, Steps, InTurn}
-use Rattle.book.specs.Changes.{turnOf}
+use Rattle.book.specs.Step.{staled, enacted, meets, Next, refusing, put, actOn, meant, stepOn}
+use Rattle.book.specs.Promises.{unchanging, Obeys, Steps, Awaits}
+use Rattle.book.specs.Changes.{turnAnswer}
 use Rattle.book.specs.declared.Order.{Order}
 use Rattle.book.specs.declared.Book.{Book}
 use Rattle.book.specs.declared.Done.{Done}
 use Rattle.book.specs.declared.acts.Effect.{Effect}
-use Rattle.book.specs.declared.acts.Deal.{Deal}
 use Rattle.book.proofs.Views.{view-at, symbol-missing, registered-at}
 
 -- ---- promises
@@ -56,37 +55,37 @@ module _ (b : Book) (a : Act Effect) where
   act-at k e h = rw (registered-at b (indexOf a) k e h .there, ← e)
 
 -- a symbol that stays as it was leaves the view as it was
-pub put-same : (b : Book) (k : ℕ) (a : ℕ) → k < symbols → headAt b k .used ≡ true → put (view b) k (unchanged a (symbolAt b k)) ≡ refusing (view b) a
+pub put-same : (b : Book) (k : ℕ) (a : ℕ) → k < symbols → headAt b k .used ≡ true → put (view b) k (record { symbol = symbolAt b k; answer = a }) ≡ refusing (view b) a
 put-same b k a h u =
     let e : getD (view b) k none ≡ some (symbolAt b k) = view-at b k h ∙ ap (λ (t : Bool). seen t (symbolAt b k)) u in
     ap (λ (v : View). refusing v a) (ap (set (view b) k) (sym e) ∙ set-getD (view b) k none)
 
 -- ---- the turn of a number
-module _ (s : Symbol) (x : Fit (List Order)) (d : Deal) where
-  pub turned-away : (stale below above : Bool) → (turnOf stale below above ≡ 7 → ⊥) → (turnOf stale below above ≡ 0 → ⊥) → judged s stale below above x d ≡ unchanged (turnOf stale below above) s
-  unfolding judged
+module _ (x : Fit (List Order)) where
+  pub turned-away : (stale below above : Bool) → (turnAnswer stale below above ≡ 7 → ⊥) → (turnAnswer stale below above ≡ 0 → ⊥) → ruled stale below above x ≡ unchanged (turnAnswer stale below above)
+  unfolding ruled
   turned-away true below above p q = refl
   turned-away false true above p q = refl
   turned-away false false true p q = absurd (p refl)
   turned-away false false false p q = absurd (q refl)
 
-  pub turned-stale : (stale below above : Bool) → turnOf stale below above ≡ 7 → judged s stale below above x d ≡ madeStale 7 s
-  unfolding judged
+  pub turned-stale : (stale below above : Bool) → turnAnswer stale below above ≡ 7 → ruled stale below above x ≡ made-stale 7
+  unfolding ruled
   turned-stale true below above p = absurd (omega (arith, p))
   turned-stale false true above p = absurd (omega (arith, p))
   turned-stale false false true p = refl
   turned-stale false false false p = absurd (omega (arith, p))
 
-  pub in-turn : (stale below above : Bool) → turnOf stale below above ≡ 0 → judged s stale below above x d ≡ judged s false false false x d
+  pub in-turn : (stale below above : Bool) → turnAnswer stale below above ≡ 0 → ruled stale below above x ≡ ruled false false false x
   in-turn true below above p = absurd (omega (arith, p))
   in-turn false true above p = absurd (omega (arith, p))
   in-turn false false true p = absurd (omega (arith, p))
   in-turn false false false p = refl
 
-pub turn-number : (stale : Bool) (n expected : ℕ) → turnOf stale (ltb n expected) (ltb expected n) ≡ 0 → expected ≡ n
+pub turn-number : (stale : Bool) (n expected : ℕ) → turnAnswer stale (ltb n expected) (ltb expected n) ≡ 0 → expected ≡ n
 turn-number stale n expected = go stale (ltb n expected) (ltb expected n) refl refl
   where
-    go : (s t u : Bool) → ltb n expected ≡ t → ltb expected n ≡ u → turnOf s t u ≡ 0 → expected ≡ n
+    go : (s t u : Bool) → ltb n expected ≡ t → ltb expected n ≡ u → turnAnswer s t u ≡ 0 → expected ≡ n
     go true t u p q e = absurd (omega (arith, e))
     go false true u p q e = absurd (omega (arith, e))
     go false false true p q e = absurd (omega (arith, e))
@@ -94,27 +93,32 @@ turn-number stale n expected = go stale (ltb n expected) (ltb expected n) refl r
 
 -- ---- a numbered message for the symbol at place k, by what the test of its turn answered
 module _ (b : Book) (index n : ℕ) (e : Effect) (k : ℕ) (is : k ≡ placeOf index (view b)) (in-range : k < symbols)
-    (t : ℕ) (turn : t ≡ turnOf (headAt b k .stale) (ltb n (headAt b k .expected)) (ltb (headAt b k .expected) n)) where
-  met : actOn (view b) (numbered index n e) ≡ put (view b) k (judged (symbolAt b k) (headAt b k .stale) (ltb n (headAt b k .expected)) (ltb (headAt b k .expected) n) (applyTo (ordersAt b k) e) (dealOf e))
+    (t : ℕ) (turn : t ≡ turnAnswer (headAt b k .stale) (ltb n (headAt b k .expected)) (ltb (headAt b k .expected) n)) where
+  abbrev comes-to : Ruling (List Order) → Next
+  comes-to r = put (view b) k (enacted (symbolAt b k) (dealOf e) r)
+
+  met : actOn (view b) (numbered index n e) ≡ comes-to (ruled (headAt b k .stale) (ltb n (headAt b k .expected)) (ltb (headAt b k .expected) n) (applyTo (ordersAt b k) e))
   unfolding meets
   met = act-at b (numbered index n e) k is in-range
 
   used : headAt b k .used ≡ true
   used = registered-at b index k is in-range .used
 
-  pub meet-stale : t ≡ 7 → actOn (view b) (numbered index n e) ≡ put (view b) k (madeStale 7 (symbolAt b k))
-  meet-stale z = met ∙ ap (put (view b) k) (turned-stale (symbolAt b k) _ _ _ _ _ (sym turn ∙ z))
+  pub meet-stale : t ≡ 7 → actOn (view b) (numbered index n e) ≡ put (view b) k (record { symbol = staled (symbolAt b k); answer = 7 })
+  unfolding enacted
+  meet-stale z = met ∙ ap comes-to (turned-stale (applyTo (ordersAt b k) e) _ _ _ (sym turn ∙ z))
 
   pub meet-away : (t ≡ 7 → ⊥) → (t ≡ 0 → ⊥) → actOn (view b) (numbered index n e) ≡ refusing (view b) t
+  unfolding enacted
   meet-away p q =
-      met ∙ ap (put (view b) k) (turned-away (symbolAt b k) _ _ _ _ _ (λ z. p (turn ∙ z)) (λ z. q (turn ∙ z)))
+      met ∙ ap comes-to (turned-away (applyTo (ordersAt b k) e) _ _ _ (λ z. p (turn ∙ z)) (λ z. q (turn ∙ z)))
       ∙ put-same b k _ in-range used ∙ ap (refusing (view b)) (sym turn)
 
   module _ (z : t ≡ 0) where
-    pub meet-in : actOn (view b) (numbered index n e) ≡ put (view b) k (judged (symbolAt b k) false false false (applyTo (ordersAt b k) e) (dealOf e))
-    meet-in = met ∙ ap (put (view b) k) (in-turn (symbolAt b k) _ _ _ _ _ (sym turn ∙ z))
+    pub meet-in : actOn (view b) (numbered index n e) ≡ put (view b) k (enacted (symbolAt b k) (dealOf e) (ruled false false false (applyTo (ordersAt b k) e)))
+    meet-in = met ∙ ap comes-to (in-turn (applyTo (ordersAt b k) e) _ _ _ (sym turn ∙ z))
 
-    pub meet-turn : n < numbers → InTurn b k
+    pub meet-turn : n < numbers → Awaits b k
     meet-turn h = record { place = in-range; used = used; expected = rw (turn-number (headAt b k .stale) n (headAt b k .expected) (sym turn ∙ z)) h }
 
 -- ---- what reading answered

@@ -5,40 +5,11 @@ use mathlib.Core.Option.{Option, none, some}
 use mathlib.Core.Path.{_≡_, refl}
 use Prim.Native.Nat.{ℕ}
 use lib.Dec.{ltb}
-use Rattle.feed.specs.Reader.{Fit, fits, misfit, no-room, Act, clear, numbered, indexOf}
 use Rattle.places.specs.Places.{among}
 use Rattle.book.specs.State.{symbols, Symbol, View, placeOf, symbolIn, vacancyOf}
-use Rattle.book.specs.Rules.{applyTo}
-use Rattle.book.specs.Record.{dealOf}
-use Rattle.book.specs.Step.{judged, meets, actAt, actOn}
 use Rattle.book.specs.Registering.{newSymbol, registeredIf, bad, registerOf}
 use Rattle.book.specs.Quote.{quotedIf, quoted, quoteOf, volumeIn, volumeOf}
 use Rattle.book.specs.declared.Order.{Order}
-use Rattle.book.specs.declared.acts.Effect.{Effect}
-use Rattle.book.specs.declared.acts.Deal.{Deal}
-
--- ---- a message that was read: 0 and 5 to 10
-judged-answers : (s : Symbol) (stale below above : Bool) (x : Fit (List Order)) (d : Deal) → among (judged s stale below above x d .answer) (0 ∷ 5 ∷ 6 ∷ 7 ∷ 8 ∷ 9 ∷ 10 ∷ []) ≡ true
-unfolding judged among
-judged-answers s true below above x d = refl
-judged-answers s false true above x d = refl
-judged-answers s false false true x d = refl
-judged-answers s false false false misfit d = refl
-judged-answers s false false false no-room d = refl
-judged-answers s false false false (fits os) d = refl
-
-meets-answers : (s : Symbol) (a : Act Effect) → among (meets s a .answer) (0 ∷ 5 ∷ 6 ∷ 7 ∷ 8 ∷ 9 ∷ 10 ∷ []) ≡ true
-unfolding meets among
-meets-answers s (clear index next) = refl
-meets-answers s (numbered index n e) = judged-answers s (s .stale) (ltb n (s .expected)) (ltb (s .expected) n) (applyTo (s .orders) e) (dealOf e)
-
-pub message-answers : (v : View) (a : Act Effect) → among (actOn v a .answer) (0 ∷ 5 ∷ 6 ∷ 7 ∷ 8 ∷ 9 ∷ 10 ∷ []) ≡ true
-unfolding actOn among
-message-answers v a = go (symbolIn (indexOf a) v)
-  where
-    go : (x : Option Symbol) → among (actAt v (placeOf (indexOf a) v) x a .answer) (0 ∷ 5 ∷ 6 ∷ 7 ∷ 8 ∷ 9 ∷ 10 ∷ []) ≡ true
-    go none = refl
-    go (some s) = meets-answers s a
 
 -- ---- registering: 0 and 11 to 13
 pub register-answers : (v : View) (index : ℕ) (name : List ℕ) (scale : ℕ) → among (registerOf v index name scale .answer) (0 ∷ 11 ∷ 12 ∷ 13 ∷ []) ≡ true

@@ -6,14 +6,14 @@ use lib.ListN.{replicate}
 use Rattle.places.specs.Places.{tabulate, has}
 use Rattle.places.proofs.Parts.{part-replicated, replicated-at}
 use Rattle.places.proofs.Emptied.{nothing-live, nothing-counted}
-use Rattle.book.specs.State.{symbols, ordersEach, tradesEach, noOrder, noTrade, vacant, nobody, orderNumber, orderLive, tradeNumber, tradeLive, ordersIn, tradesIn, view, padded, Sound, Fresh}
+use Rattle.book.specs.State.{symbols, ordersEach, tradesEach, noOrder, noTrade, vacant, nobody, orderNumber, orderLive, tradeNumber, tradeLive, ordersIn, tradesIn, view, paddedName, Sound, Fresh}
 use Rattle.book.specs.declared.Book.{Book}
 
 abbrev new : Book
 new = record { heads = replicate symbols vacant; orders = replicate (symbols * ordersEach) noOrder; trades = replicate (symbols * tradesEach) noTrade }
 
 new-sound : (k : ℕ) → Sound vacant (ordersIn new k) (tradesIn new k)
-unfolding padded tabulate
+unfolding paddedName tabulate
 new-sound k = record {
   orders = λ n. let z = nothing-counted ordersEach k noOrder (has orderNumber orderLive n) (ordersIn new k) refl (λ i h. part-replicated noOrder ordersEach k (symbols * ordersEach) i) in omega arith;
   trades = λ n. let z = nothing-counted tradesEach k noTrade (has tradeNumber tradeLive n) (tradesIn new k) refl (λ i h. part-replicated noTrade tradesEach k (symbols * tradesEach) i) in omega arith;

@@ -35,12 +35,12 @@ module _ (b : Book) (index : ℕ) (s : Symbol) (e : symbolIn index (view b) ≡ 
   is : s ≡ symbolAt b (placeOf index (view b))
   is = let same : _≡_ {A = Option Symbol} (some s) (some (symbolAt b (placeOf index (view b)))) = sym e ∙ registered-at b index (placeOf index (view b)) refl there .there in cc
 
-  -- a symbol holds up to 64 live orders, and keeps up to 128 trades
-  pub at-most-64 : length (s .orders) ≤ ordersEach
-  at-most-64 = rw is (bounded orderNumber orderLive ordersEach (placeOf index (view b)) (b .orders))
+  -- a symbol holds no more live orders, and no more trades, than it has places for them
+  pub orders-within : length (s .orders) ≤ ordersEach
+  orders-within = rw is (bounded orderNumber orderLive ordersEach (placeOf index (view b)) (b .orders))
 
-  pub at-most-128 : length (s .trades) ≤ tradesEach
-  at-most-128 = rw is (bounded tradeNumber tradeLive tradesEach (placeOf index (view b)) (b .trades))
+  pub trades-within : length (s .trades) ≤ tradesEach
+  trades-within = rw is (bounded tradeNumber tradeLive tradesEach (placeOf index (view b)) (b .trades))
 
   module _ (w : Wf b) where
     -- at most one live order of a number, and one kept trade

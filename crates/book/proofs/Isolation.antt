@@ -9,15 +9,14 @@ use borrow.Author.Tests.{eqb-true, ltb-true, ltb-false}
 use lib.Dec.{ltb}
 use lib.ListN.{length, set, List·getD-eq-default, take, drop}
 use lib.Seq.{getD-set-same, getD-set-other}
-use Rattle.feed.specs.Reader.{Fit, fits, misfit, no-room, Act, clear, numbered, indexOf}
+use Rattle.feed.specs.Reader.{Ruling, unchanged, made-stale, applied, Act, clear, numbered, indexOf}
 use Rattle.wire.specs.Outcome.{Outcome, done, refused}
 use Rattle.wire.specs.Reading.{Read, reachOf, readOf}
 use Rattle.wire.specs.declared.Message.{Message}
 use Rattle.places.proofs.Searching.{first-passes, first-set}
 use Rattle.book.specs.State.{Symbol, View, view, hasIndex, placeOf, symbolIn, Wf}
-use Rattle.book.specs.Rules.{applyTo}
 use Rattle.book.specs.Record.{dealOf}
-use Rattle.book.specs.Step.{judged, meets, actAt, actOn, meant, stepOn, stepOf}
+use Rattle.book.specs.Step.{enacted, meets, actAt, actOn, meant, stepOn, stepOf}
 use Rattle.book.specs.Walk.{moveBy, moveOf, Moves}
 use Rattle.book.specs.declared.Book.{Book}
 use Rattle.book.specs.declared.walk.Moved.{Moved}
@@ -31,19 +30,16 @@ pub record SameName (s t : Symbol) : Type 0 where
   pub name : t .name ≡ s .name
   pub scale : t .scale ≡ s .scale
 
-judged-keeps : (s : Symbol) (stale below above : Bool) (x : Fit (List Order)) (d : Deal) → SameName s (judged s stale below above x d .symbol)
-unfolding judged
-judged-keeps s true below above x d = record { index = refl; name = refl; scale = refl }
-judged-keeps s false true above x d = record { index = refl; name = refl; scale = refl }
-judged-keeps s false false true x d = record { index = refl; name = refl; scale = refl }
-judged-keeps s false false false misfit d = record { index = refl; name = refl; scale = refl }
-judged-keeps s false false false no-room d = record { index = refl; name = refl; scale = refl }
-judged-keeps s false false false (fits os) d = record { index = refl; name = refl; scale = refl }
+enacted-keeps : (s : Symbol) (d : Deal) (r : Ruling (List Order)) → SameName s (enacted s d r .symbol)
+unfolding enacted
+enacted-keeps s d (unchanged a) = record { index = refl; name = refl; scale = refl }
+enacted-keeps s d (made-stale a) = record { index = refl; name = refl; scale = refl }
+enacted-keeps s d (applied os) = record { index = refl; name = refl; scale = refl }
 
 pub meets-keeps : (s : Symbol) (a : Act Effect) → SameName s (meets s a .symbol)
 unfolding meets
 meets-keeps s (clear index next) = record { index = refl; name = refl; scale = refl }
-meets-keeps s (numbered index n e) = judged-keeps s (s .stale) (ltb n (s .expected)) (ltb (s .expected) n) (applyTo (s .orders) e) (dealOf e)
+meets-keeps s (numbered index n e) = enacted-keeps s (dealOf e) _
 
 -- ---- a symbol in a view
 pub place-within : (v : View) (index : ℕ) (s : Symbol) → symbolIn index v ≡ some s → placeOf index v < length v

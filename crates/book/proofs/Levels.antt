@@ -9,27 +9,21 @@ use native.Mathlib.Omega.{arith}
 use lib.Dec.{ltb}
 use lib.ListN.{length}
 use borrow.Author.Tests.{eq-eqb}
-use Rattle.feed.specs.Reader.{numbered}
+use Rattle.feed.specs.Reader.{ruled, numbered}
 use Rattle.places.specs.Places.{fold, sumBy, insert, look}
 use Rattle.places.proofs.Sorted.{sum-insert}
 use Rattle.places.proofs.Sums.{fold-insert}
 use Rattle.book.specs.State.{ordersEach, orderNumber, Symbol, View, symbolIn}
 use Rattle.book.specs.Rules.{applyTo, added, orderOf}
-use Rattle.book.specs.Step.{judged, meets, actOn}
-use Rattle.book.specs.Quote.{counts, better, bestStep, noBest, bestOf, sharesAt, levelIf, levelOf, quotedIf, quoted, quoteOf}
+use Rattle.book.specs.Step.{enacted, meets, actOn}
+use Rattle.book.specs.Quote.{counts, better, bestStep, noBest, bestOf, sharesAt, levelIf, levelOf, quotedIf, quoted, quoteOf, sideOf, NoBetter}
 use Rattle.book.specs.declared.Order.{Order}
 use Rattle.book.specs.declared.quote.Best.{Best}
 use Rattle.book.specs.declared.quote.Level.{Level}
-use Rattle.book.specs.declared.quote.Quote.{Quote}
 use Rattle.book.specs.declared.acts.Effect.{Effect}
 use Rattle.book.specs.declared.acts.Deal.{Deal}
 use Rattle.book.proofs.Quoting.{best-comm}
 use Rattle.book.proofs.Isolation.{own-symbol}
-
--- one side of a quote
-abbrev pub sideOf : Bool → Quote → Level
-sideOf true q = q .bid
-sideOf false q = q .ask
 
 -- ---- a level that shows a price
 pub record Shows (buy : Bool) (os : List Order) (p n : ℕ) : Type 0 where
@@ -66,10 +60,6 @@ pub exact-sum : (buy : Bool) (v : View) (index : ℕ) (s : Symbol) (p n : ℕ) �
 exact-sum buy v index s p n e q = sym (shows buy (s .orders) p n (quoted-side buy v index s p n e q .1) .size)
 
 -- ---- no live order of the side is better
-abbrev pub NoBetter : Bool → ℕ → ℕ → Type 0
-NoBetter true p q = q ≤ p
-NoBetter false p q = p ≤ q
-
 -- a price met is no better than the best of more
 kept-best : (buy : Bool) (q : ℕ) (o : Order) (b : Best) → b .some ≡ true → NoBetter buy (b .price) q → (bestStep buy o b .some ≡ true) × NoBetter buy (bestStep buy o b .price) q
 unfolding bestStep
@@ -139,9 +129,9 @@ pub record Adds (s t : Symbol) (o : Order) : Type 0 where
   pub orders : t .orders ≡ insert orderNumber o (s .orders)
   pub stale : t .stale ≡ s .stale
 
-add-done : (s : Symbol) (o : Order) (stale below above : Bool) (found : Option Order) (room : Bool) (d : Deal) → judged s stale below above (added (s .orders) o found room) d .answer ≡ 0
-    → Adds s (judged s stale below above (added (s .orders) o found room) d .symbol) o
-unfolding judged
+add-done : (s : Symbol) (o : Order) (stale below above : Bool) (found : Option Order) (room : Bool) (d : Deal) → enacted s d (ruled stale below above (added (s .orders) o found room)) .answer ≡ 0
+    → Adds s (enacted s d (ruled stale below above (added (s .orders) o found room)) .symbol) o
+unfolding enacted ruled
 add-done s o true below above found room d e = absurd (omega (arith, e))
 add-done s o false true above found room d e = absurd (omega (arith, e))
 add-done s o false false true found room d e = absurd (omega (arith, e))

@@ -11,25 +11,25 @@ use lib.ListN.{length, getD, take, set, length-set, replicate, List·getD-eq-def
 use lib.Seq.{getD-take, ext-getD, length-take-le, getD-set-same, getD-set-other}
 use Rattle.places.proofs.Parts.{getD-replicated}
 use Rattle.places.proofs.Tables.{length-tabulate, getD-tabulate, is-tabulated}
-use Rattle.book.specs.State.{nameBytes, padded}
+use Rattle.book.specs.State.{nameBytes, paddedName}
 
-pub length-padded : (name : List ℕ) → length (padded name) ≡ nameBytes
-unfolding padded
+pub length-padded : (name : List ℕ) → length (paddedName name) ≡ nameBytes
+unfolding paddedName
 length-padded name = length-tabulate nameBytes _
 
-pub padded-at : (name : List ℕ) (i : ℕ) → i < nameBytes → getD (padded name) i 0 ≡ getD name i 0
-unfolding padded
+pub padded-at : (name : List ℕ) (i : ℕ) → i < nameBytes → getD (paddedName name) i 0 ≡ getD name i 0
+unfolding paddedName
 padded-at name i h = getD-tabulate nameBytes _ i 0 h
 
-pub take-padded : (name : List ℕ) → length name ≤ nameBytes → take (length name) (padded name) ≡ name
+pub take-padded : (name : List ℕ) → length name ≤ nameBytes → take (length name) (paddedName name) ≡ name
 take-padded name h =
-    let e : length (take (length name) (padded name)) ≡ length name = length-take-le (length name) (padded name) (rw (length-padded name) h) in
-    ext-getD 0 (take (length name) (padded name)) name e
-    (λ i g. let below : i < length name = (rw e at g) in getD-take (length name) (padded name) i 0 below ∙ padded-at name i (omega arith))
+    let e : length (take (length name) (paddedName name)) ≡ length name = length-take-le (length name) (paddedName name) (rw (length-padded name) h) in
+    ext-getD 0 (take (length name) (paddedName name)) name e
+    (λ i g. let below : i < length name = (rw e at g) in getD-take (length name) (paddedName name) i 0 below ∙ padded-at name i (omega arith))
 
 -- eleven bytes that are the name's, and zero where it has none, are the padded name
-pub is-padded : (name a : List ℕ) → length a ≡ nameBytes → ((i : ℕ) → i < nameBytes → getD a i 0 ≡ getD name i 0) → a ≡ padded name
-unfolding padded
+pub is-padded : (name a : List ℕ) → length a ≡ nameBytes → ((i : ℕ) → i < nameBytes → getD a i 0 ≡ getD name i 0) → a ≡ paddedName name
+unfolding paddedName
 is-padded name a e p = is-tabulated nameBytes _ a 0 e p
 
 -- ---- a copy: the first j bytes are the name's, and the rest are zero
@@ -54,7 +54,7 @@ copied-more name a j h c = record {
         let ne : i ≡ j → ⊥ = eqb-false i j e in
         getD-set-other a j i (getD name j 0) 0 ne ∙ c .bytes i (omega arith)
 
-pub copied-all : (name a : List ℕ) (j : ℕ) → length name ≤ j → Copied name a j → a ≡ padded name
+pub copied-all : (name a : List ℕ) (j : ℕ) → length name ≤ j → Copied name a j → a ≡ paddedName name
 copied-all name a j h c = is-padded name a (c .long) (λ i g. go i (ltb i j) refl)
   where
     go : (i : ℕ) (t : Bool) → ltb i j ≡ t → getD a i 0 ≡ getD name i 0

@@ -8,7 +8,7 @@ use native.Mathlib.Omega.{arith}
 use lib.Dec.{ltb}
 use lib.ListN.{set}
 use lib.Seq.{set-getD}
-use Rattle.feed.specs.Reader.{Fit, fits, misfit, no-room, Act, clear, numbered, indexOf}
+use Rattle.feed.specs.Reader.{Fit, fits, misfit, no-room, ruled, Act, clear, numbered, indexOf}
 use Rattle.wire.specs.Outcome.{Outcome, done, refused}
 use Rattle.wire.specs.Reading.{Read}
 use Rattle.wire.specs.declared.Message.{Message}
@@ -16,7 +16,7 @@ use Rattle.places.specs.Places.{among}
 use Rattle.book.specs.State.{Symbol, View, placeOf, symbolIn}
 use Rattle.book.specs.Rules.{applyTo}
 use Rattle.book.specs.Record.{dealOf}
-use Rattle.book.specs.Step.{madeStale, judged, meets, actAt, actOn, meant, stepOn, stepOf}
+use Rattle.book.specs.Step.{staled, enacted, meets, actAt, actOn, meant, stepOn, stepOf}
 use Rattle.book.specs.Promises.{unchanging}
 use Rattle.book.specs.declared.Order.{Order}
 use Rattle.book.specs.declared.acts.Effect.{Effect}
@@ -26,19 +26,19 @@ never : {A : Type 0} → _≡_ {A = Bool} false true → A
 never e = absurd (let z : _≡_ {A = ℕ} 0 1 = cc in omega arith)
 
 -- ---- 1 to 6 and 8: the view is as it was
-judged-unchanged : (s : Symbol) (stale below above : Bool) (x : Fit (List Order)) (d : Deal) → unchanging (judged s stale below above x d .answer) ≡ true → judged s stale below above x d .symbol ≡ s
-unfolding judged among
-judged-unchanged s true below above x d e = refl
-judged-unchanged s false true above x d e = refl
-judged-unchanged s false false true x d e = never e
-judged-unchanged s false false false misfit d e = never e
-judged-unchanged s false false false no-room d e = never e
-judged-unchanged s false false false (fits os) d e = never e
+ruled-unchanged : (s : Symbol) (stale below above : Bool) (x : Fit (List Order)) (d : Deal) → unchanging (enacted s d (ruled stale below above x) .answer) ≡ true → enacted s d (ruled stale below above x) .symbol ≡ s
+unfolding enacted ruled among
+ruled-unchanged s true below above x d e = refl
+ruled-unchanged s false true above x d e = refl
+ruled-unchanged s false false true x d e = never e
+ruled-unchanged s false false false misfit d e = never e
+ruled-unchanged s false false false no-room d e = never e
+ruled-unchanged s false false false (fits os) d e = never e
 
 meets-unchanged : (s : Symbol) (a : Act Effect) → unchanging (meets s a .answer) ≡ true → meets s a .symbol ≡ s
 unfolding meets among
 meets-unchanged s (clear index next) e = never e
-meets-unchanged s (numbered index n f) e = judged-unchanged s (s .stale) (ltb n (s .expected)) (ltb (s .expected) n) (applyTo (s .orders) f) (dealOf f) e
+meets-unchanged s (numbered index n f) e = ruled-unchanged s (s .stale) (ltb n (s .expected)) (ltb (s .expected) n) (applyTo (s .orders) f) (dealOf f) e
 
 pub act-unchanged : (v : View) (a : Act Effect) → unchanging (actOn v a .answer) ≡ true → actOn v a .view ≡ v
 unfolding actOn symbolIn
@@ -60,24 +60,24 @@ refused-view v d = go (d .outcome)
 abbrev pub makesStale : ℕ → Bool
 makesStale a = among a (7 ∷ 9 ∷ 10 ∷ [])
 
-judged-stale : (s : Symbol) (stale below above : Bool) (x : Fit (List Order)) (d : Deal) → makesStale (judged s stale below above x d .answer) ≡ true → judged s stale below above x d .symbol ≡ madeStale 7 s .symbol
-unfolding judged among
-judged-stale s true below above x d e = never e
-judged-stale s false true above x d e = never e
-judged-stale s false false true x d e = refl
-judged-stale s false false false misfit d e = refl
-judged-stale s false false false no-room d e = refl
-judged-stale s false false false (fits os) d e = never e
+ruled-stale : (s : Symbol) (stale below above : Bool) (x : Fit (List Order)) (d : Deal) → makesStale (enacted s d (ruled stale below above x) .answer) ≡ true → enacted s d (ruled stale below above x) .symbol ≡ staled s
+unfolding enacted ruled among
+ruled-stale s true below above x d e = never e
+ruled-stale s false true above x d e = never e
+ruled-stale s false false true x d e = refl
+ruled-stale s false false false misfit d e = refl
+ruled-stale s false false false no-room d e = refl
+ruled-stale s false false false (fits os) d e = never e
 
-meets-stale : (s : Symbol) (a : Act Effect) → makesStale (meets s a .answer) ≡ true → meets s a .symbol ≡ madeStale 7 s .symbol
+meets-stale : (s : Symbol) (a : Act Effect) → makesStale (meets s a .answer) ≡ true → meets s a .symbol ≡ staled s
 unfolding meets among
 meets-stale s (clear index next) e = never e
-meets-stale s (numbered index n f) e = judged-stale s (s .stale) (ltb n (s .expected)) (ltb (s .expected) n) (applyTo (s .orders) f) (dealOf f) e
+meets-stale s (numbered index n f) e = ruled-stale s (s .stale) (ltb n (s .expected)) (ltb (s .expected) n) (applyTo (s .orders) f) (dealOf f) e
 
 pub record MadeStale (v : View) (index : ℕ) (w : View) : Type 0 where
   pub symbol : Symbol
   pub there : symbolIn index v ≡ some symbol
-  pub next-view : w ≡ set v (placeOf index v) (some (madeStale 7 symbol .symbol))
+  pub next-view : w ≡ set v (placeOf index v) (some (staled symbol))
 
 pub stale-view : (v : View) (a : Act Effect) → makesStale (actOn v a .answer) ≡ true → MadeStale v (indexOf a) (actOn v a .view)
 unfolding actOn among

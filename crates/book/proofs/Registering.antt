@@ -10,7 +10,7 @@ use lib.Dec.{ltb, eqb}
 use lib.ListN.{length, getD}
 use Rattle.places.specs.Places.{first}
 use Rattle.places.proofs.Searching.{first-passes}
-use Rattle.book.specs.State.{symbols, nameBytes, padded, Symbol, View, headAt, symbolAt, seen, view, isVacant, placeOf, vacancyOf, Wf}
+use Rattle.book.specs.State.{symbols, nameBytes, paddedName, Symbol, View, headAt, symbolAt, seen, view, isVacant, placeOf, vacancyOf, Wf}
 use Rattle.book.specs.Step.{refusing, put}
 use Rattle.book.specs.Registering.{byteBad, nameBad, newSymbol, registerOf}
 use Rattle.book.specs.Promises.{Obeys}
@@ -58,7 +58,7 @@ name-short name = go (eqb (length name) 0) (ltb nameBytes (length name)) refl
 
 -- ---- the new symbol's head
 abbrev pub newHead : ℕ → List ℕ → ℕ → Head
-newHead index name scale = record { used = true; index = index; name = padded name; len = length name; scale = scale; stale = false; expected = 1; whole = true }
+newHead index name scale = record { used = true; index = index; name = paddedName name; len = length name; scale = scale; stale = false; expected = 1; whole = true }
 
 seen-vacant : (u : Bool) (s : Symbol) → isVacant (seen u s) ≡ true → u ≡ false
 seen-vacant false s e = refl

@@ -9,7 +9,7 @@ use denote.Laws.{Is}
 use denote.Struct.Declared.{row}
 use lib.ListN.{length, getD, set}
 use lib.Seq.{getD-set-same, getD-set-other}
-use Rattle.feed.specs.Reader.{Fit, fits}
+use Rattle.feed.specs.Reader.{Fit, fits, ruled}
 use Rattle.places.specs.Places.{among, inOrder, has, Single, Lands}
 use Rattle.places.proofs.Parts.{part-length}
 use Rattle.places.proofs.Emptied.{nothing-live, nothing-counted}
@@ -17,9 +17,8 @@ use Rattle.places.proofs.Landing.{part-placed, part-placed-other}
 use Rattle.book.specs.State.{symbols, ordersEach, tradesEach, noOrder, nobody, orderNumber, orderLive, tradeNumber, tradeLive, headAt, ordersIn, tradesIn, ordersAt, tradesAt, symbolOf, symbolAt, view, Sound, Wf}
 use Rattle.book.specs.Rules.{applyTo}
 use Rattle.book.specs.Record.{dealTo, dealOf}
-use Rattle.book.specs.Step.{Reply, judged, cleared, put}
-use Rattle.book.specs.Step as rule
-use Rattle.book.specs.Promises.{unchanging, Obeys, InTurn, Settles}
+use Rattle.book.specs.Step.{Reply, staled, enacted, cleared, put}
+use Rattle.book.specs.Promises.{unchanging, Obeys, Awaits, Settles}
 use Rattle.book.specs.Changes.{OrderPart, TradePart, Decides, lands, misfits, crowds, Deals, withHead, staleHead, countedHead, restartedHead, staleAt, countedAt, restartedAt, withOrder, withTrade, settledAt, Emptied}
 use Rattle.book.specs.declared.Order.{Order}
 use Rattle.book.specs.declared.Trade.{Trade}
@@ -49,8 +48,8 @@ module _ (b : Book) (k : ℕ) (in-range : k < symbols) (eight : length (b .heads
 
   module _ (used : headAt b k .used ≡ true) (w : Wf b) where
     -- ---- refused, and the symbol stale
-    pub stales : (a : ℕ) → Obeys (put (view b) k (rule.madeStale a (symbolAt b k))) (staleAt b k a .book) a
-    stales a = obeys-at b (staleAt b k a .book) k in-range (but-head (staleHead (headAt b k)) a) (rule.madeStale a (symbolAt b k)) w
+    pub stales : (a : ℕ) → Obeys (put (view b) k (record { symbol = staled (symbolAt b k); answer = a })) (staleAt b k a .book) a
+    stales a = obeys-at b (staleAt b k a .book) k in-range (but-head (staleHead (headAt b k)) a) (record { symbol = staled (symbolAt b k); answer = a }) w
         (rw (head-set (staleHead (headAt b k))) (let s = w .sound k in-range in
         record { orders = s .orders; trades = s .trades; no-orders = s .no-orders; no-trades = s .no-trades; short = s .short; zeros = s .zeros }))
         (rw (head-set (staleHead (headAt b k))) used)
@@ -87,13 +86,13 @@ module _ (b : Book) (k : ℕ) (in-range : k < symbols) (eight : length (b .heads
 
     -- ---- what was decided is done
     settles-by : (v : Verdict) (x : Fit (List Order)) (c : Recording) (d : Deal) → Decides (ordersIn b k) v x → Deals (tradesIn b k) d c
-        → Obeys (put (view b) k (judged (symbolAt b k) false false false x d)) (settledAt b k v c .book) (settledAt b k v c .answer)
-    unfolding judged
+        → Obeys (put (view b) k (enacted (symbolAt b k) d (ruled false false false x))) (settledAt b k v c .book) (settledAt b k v c .answer)
+    unfolding enacted ruled
     settles-by v x c d misfits g = stales 9
     settles-by v x c d crowds g = stales 10
     settles-by v x c d (lands {place = i} {o = o} {os = os} p) g =
         stores i o os p (c .place) (c .trade) (dealTo (tradesAt b k) d .trades) (g .lands) (c .lost)
-        (judged (symbolAt b k) false false false (fits os) d)
+        (enacted (symbolAt b k) d (ruled false false false (fits os)))
         (ap (λ (lost : Bool). symbolOf (countedHead (headAt b k) lost) os (dealTo (tradesAt b k) d .trades)) (g .lost))
 
 changes-something : (b : Book) (k : ℕ) (v : Verdict) (c : Recording) → unchanging (settledAt b k v c .answer) ≡ false
@@ -103,7 +102,7 @@ changes-something b k Verdict.Misfit c = refl
 changes-something b k Verdict.NoRoom c = refl
 
 -- ---- so a method that finds, decides and settles keeps its promise. Owning the book tells how long its arrays are
-module _ (b : Book) (vs : List Val) (g : Is (row the-type) b vs) (k : ℕ) (e : Effect) (v : Verdict) (c : Recording) (t : InTurn b k) where
+module _ (b : Book) (vs : List Val) (g : Is (row the-type) b vs) (k : ℕ) (e : Effect) (v : Verdict) (c : Recording) (t : Awaits b k) where
   order-part : Wf b → OrderPart (ordersIn b k)
   order-part w = record { long = part-length ordersEach k (b .orders) (omega (arith, t .place, orders-size b vs g)); single = w .sound k (t .place) .orders }
 

@@ -57,7 +57,7 @@ unfolding symbolIn
 symbol-missing b index h = List·getD-eq-default (view b) none (rw (length-view b) h)
 
 -- the symbol with this index stands at place k
-pub record StandsAt (b : Book) (index k : ℕ) : Type 0 where
+pub record RegisteredAt (b : Book) (index k : ℕ) : Type 0 where
   pub used : headAt b k .used ≡ true
   pub there : symbolIn index (view b) ≡ some (symbolAt b k)
 
@@ -65,7 +65,7 @@ seen-named : (index : ℕ) (u : Bool) (s : Symbol) → hasIndex index (seen u s)
 seen-named index true s e = refl
 seen-named index false s e = absurd (let z : _≡_ {A = ℕ} 0 1 = cc in omega arith)
 
-pub registered-at : (b : Book) (index k : ℕ) → k ≡ placeOf index (view b) → k < symbols → StandsAt b index k
+pub registered-at : (b : Book) (index k : ℕ) → k ≡ placeOf index (view b) → k < symbols → RegisteredAt b index k
 unfolding symbolIn placeOf
 registered-at b index k e h =
     let p : hasIndex index (getD (view b) k none) ≡ true = (rw e (first-passes (hasIndex index) (view b) none (rw (length-view b, ← e) h))) in

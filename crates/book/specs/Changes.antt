@@ -95,8 +95,8 @@ pub record Emptied (b : Book) (k : ℕ) (r : Book) : Type 0 where
 
 -- ---- the turn of a number: 8, 6, 7, or 0 in turn
 --         stale  below  above
-abbrev pub turnOf : Bool → Bool → Bool → ℕ
-turnOf true below above = 8
-turnOf false true above = 6
-turnOf false false true = 7
-turnOf false false false = 0
+abbrev pub turnAnswer : Bool → Bool → Bool → ℕ
+turnAnswer true below above = 8
+turnAnswer false true above = 6
+turnAnswer false false true = 7
+turnAnswer false false false = 0

@@ -3,11 +3,12 @@ use mathlib.Core.Bool.{Bool, true, false}
 use mathlib.Core.List.{[], _∷_}
 use mathlib.Core.Path.{_≡_}
 use Prim.Native.Nat.{ℕ, _<_}
+use Rattle.feed.specs.Reader.{ruled}
 use Rattle.places.specs.Places.{among}
 use Rattle.book.specs.State.{symbols, numbers, headAt, symbolAt, ordersAt, view, Wf}
 use Rattle.book.specs.Rules.{applyTo}
 use Rattle.book.specs.Record.{dealOf}
-use Rattle.book.specs.Step.{judged, Next, put}
+use Rattle.book.specs.Step.{enacted, Next, put}
 use Rattle.book.specs.declared.Book.{Book}
 use Rattle.book.specs.declared.Done.{Done}
 use Rattle.book.specs.declared.acts.Effect.{Effect}
@@ -28,7 +29,7 @@ pub record Steps (b : Book) (x : Next) (r : Done) : Type 0 where
   pub obeys : Wf b → Obeys x (r .book) (r .answer)
 
 -- ---- for the methods: place k has a symbol, and its expected number is one that a message can carry
-pub record InTurn (b : Book) (k : ℕ) : Type 0 where
+pub record Awaits (b : Book) (k : ℕ) : Type 0 where
   pub place : k < symbols
   pub used : headAt b k .used ≡ true
   pub expected : headAt b k .expected < numbers
@@ -36,4 +37,4 @@ pub record InTurn (b : Book) (k : ℕ) : Type 0 where
 -- a message in its turn is applied, or its symbol becomes stale: something changes, at place k alone
 pub record Settles (b : Book) (k : ℕ) (e : Effect) (r : Done) : Type 0 where
   pub changes : unchanging (r .answer) ≡ false
-  pub obeys : Wf b → Obeys (put (view b) k (judged (symbolAt b k) false false false (applyTo (ordersAt b k) e) (dealOf e))) (r .book) (r .answer)
+  pub obeys : Wf b → Obeys (put (view b) k (enacted (symbolAt b k) (dealOf e) (ruled false false false (applyTo (ordersAt b k) e)))) (r .book) (r .answer)

@@ -2,7 +2,7 @@
 use mathlib.Core.Bool.{Bool, true, false, cond, Bool·beq}
 use mathlib.Core.List.{List}
 use mathlib.Core.Option.{Option, none, some}
-use Prim.Native.Nat.{ℕ, max, min}
+use Prim.Native.Nat.{ℕ, max, min, _≤_}
 use lib.Dec.{eqb}
 use Rattle.places.specs.Places.{fold, sumBy}
 use Rattle.book.specs.State.{Symbol, View, symbolIn}
@@ -56,6 +56,15 @@ quoted (some s) = quotedIf (s .stale) (s .orders)
 
 unfoldable pub quoteOf : ℕ → View → Quote
 quoteOf index v = quoted (symbolIn index v)
+
+-- one side of a quote; and that no price of a side is better than one
+abbrev pub sideOf : Bool → Quote → Level
+sideOf true q = q .bid
+sideOf false q = q .ask
+
+abbrev pub NoBetter : Bool → ℕ → ℕ → Type 0
+NoBetter true best p = p ≤ best
+NoBetter false best p = best ≤ p
 
 -- the day's volume is the sum over kept trades, given in any state
 abbrev pub sharesIn : Trade → ℕ

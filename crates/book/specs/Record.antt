@@ -40,8 +40,8 @@ dealTo ts (Deal.Records n p v) = recorded ts (tradeOf n p v) (look tradeNumber n
 dealTo ts (Deal.Cancels n) = cancelled ts n (look tradeNumber n ts)
 
 -- a trade is recorded with printable 1
-abbrev pub printed : ℕ → ℕ → ℕ → ℕ → Deal
-printed printable n p v = cond (eqb printable 1) (Deal.Records n p v) Deal.Nothing
+abbrev pub ifPrintable : ℕ → ℕ → ℕ → ℕ → Deal
+ifPrintable printable n p v = cond (eqb printable 1) (Deal.Records n p v) Deal.Nothing
 
 -- what each effect brings to the record
 abbrev pub dealOf : Effect → Deal

@@ -7,7 +7,7 @@ use Prim.Native.Nat.{ℕ}
 use lib.Dec.{ltb, eqb}
 use lib.ListN.{length, replicate}
 use Rattle.places.specs.Places.{first}
-use Rattle.book.specs.State.{symbols, nameBytes, padded, Symbol, View, view, Wf, placeOf, symbolIn, vacancyOf}
+use Rattle.book.specs.State.{symbols, nameBytes, paddedName, Symbol, View, view, Wf, placeOf, symbolIn, vacancyOf}
 use Rattle.book.specs.Step.{Next, refusing, put}
 use Rattle.book.specs.declared.Book.{Book}
 use Rattle.book.specs.declared.symbols.Registered.{Registered}
@@ -41,7 +41,7 @@ registerOf v index name scale = registeredIf (bad name scale) (ltb (placeOf inde
 -- ---- what is told of a registered symbol: its name with zeros after it, how long it is, and its scale; or 5
 unfoldable pub toldOf : Option Symbol → Registered
 toldOf none = record { answer = 5; name = replicate nameBytes 0; len = 0; scale = 0 }
-toldOf (some s) = record { answer = 0; name = padded (s .name); len = length (s .name); scale = s .scale }
+toldOf (some s) = record { answer = 0; name = paddedName (s .name); len = length (s .name); scale = s .scale }
 
 pub record Told (b : Book) (index : ℕ) (r : Registered) : Type 0 where
   pub answer : r .answer ≡ toldOf (symbolIn index (view b)) .answer

@@ -119,8 +119,8 @@ vacancyOf v = first isVacant v
 
 -- ---- what holds of every state
 -- eleven bytes: the name's, then zeros
-unfoldable pub padded : List ℕ → List ℕ
-padded name = tabulate nameBytes (λ i. getD name i 0)
+unfoldable pub paddedName : List ℕ → List ℕ
+paddedName name = tabulate nameBytes (λ i. getD name i 0)
 
 -- no number is live twice; a place with no symbol holds nothing; a name is padded
 pub record Sound (h : Head) (os : List Order) (ts : List Trade) : Type 0 where
@@ -129,7 +129,7 @@ pub record Sound (h : Head) (os : List Order) (ts : List Trade) : Type 0 where
   pub no-orders : h .used ≡ false → inOrder orderNumber orderLive os ≡ []
   pub no-trades : h .used ≡ false → inOrder tradeNumber tradeLive ts ≡ []
   pub short : h .len ≤ nameBytes
-  pub zeros : h .name ≡ padded (take (h .len) (h .name))
+  pub zeros : h .name ≡ paddedName (take (h .len) (h .name))
 
 pub record Wf (b : Book) : Type 0 where
   pub sound : (k : ℕ) → k < symbols → Sound (headAt b k) (ordersIn b k) (tradesIn b k)

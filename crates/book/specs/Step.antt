@@ -5,13 +5,13 @@ use mathlib.Core.Option.{Option, none, some}
 use Prim.Native.Nat.{ℕ, _+_}
 use lib.Dec.{ltb, eqb}
 use lib.ListN.{set}
-use Rattle.feed.specs.Reader.{Fit, fits, misfit, no-room, Act, clear, numbered, indexOf}
+use Rattle.feed.specs.Reader.{Ruling, unchanged, made-stale, applied, ruled, Act, clear, numbered, indexOf}
 use Rattle.wire.specs.Outcome.{Outcome, done, refused}
 use Rattle.wire.specs.Reading.{Read}
 use Rattle.wire.specs.declared.Message.{Message}
 use Rattle.book.specs.State.{Symbol, View, placeOf, symbolIn}
 use Rattle.book.specs.Rules.{applyTo}
-use Rattle.book.specs.Record.{Dealt, dealTo, dealOf, printed}
+use Rattle.book.specs.Record.{Dealt, dealTo, dealOf, ifPrintable}
 use Rattle.book.specs.declared.Order.{Order}
 use Rattle.book.specs.declared.acts.Effect.{Effect}
 use Rattle.book.specs.declared.acts.Deal.{Deal}
@@ -22,26 +22,19 @@ pub record Reply : Type 0 where
   pub symbol : Symbol
   pub answer : ℕ
 
-abbrev pub unchanged : ℕ → Symbol → Reply
-unchanged a s = record { symbol = s; answer = a }
+-- stale, and its record without the mark
+abbrev pub staled : Symbol → Symbol
+staled s = record { index = s .index; name = s .name; scale = s .scale; expected = s .expected; stale = true; whole = false; orders = s .orders; trades = s .trades }
 
--- the symbol becomes stale, and the record loses its mark
-abbrev pub madeStale : ℕ → Symbol → Reply
-madeStale a s = record { symbol = record { index = s .index; name = s .name; scale = s .scale; expected = s .expected; stale = true; whole = false; orders = s .orders; trades = s .trades }; answer = a }
+-- a number on, with these orders and what was dealt
+abbrev pub advanced : Symbol → List Order → Dealt → Symbol
+advanced s os d = record { index = s .index; name = s .name; scale = s .scale; expected = s .expected + 1; stale = s .stale; whole = cond (d .lost) false (s .whole); orders = os; trades = d .trades }
 
--- the expected number is raised by one
-abbrev pub applied : Symbol → List Order → Dealt → Reply
-applied s os d = record { symbol = record { index = s .index; name = s .name; scale = s .scale; expected = s .expected + 1; stale = s .stale; whole = cond (d .lost) false (s .whole); orders = os; trades = d .trades }; answer = 0 }
-
--- one clause for each row of "Numbers answered", the tests in the order in which document 01 checks
---            stale  below  above  fit
-unfoldable pub judged : Symbol → Bool → Bool → Bool → Fit (List Order) → Deal → Reply
-judged s true below above x d = unchanged 8 s
-judged s false true above x d = unchanged 6 s
-judged s false false true x d = madeStale 7 s
-judged s false false false misfit d = madeStale 9 s
-judged s false false false no-room d = madeStale 10 s
-judged s false false false (fits os) d = applied s os (dealTo (s .trades) d)
+-- a ruling carried out; `ruled` has the rows of "Numbers answered"
+unfoldable pub enacted : Symbol → Deal → Ruling (List Order) → Reply
+enacted s d (unchanged a) = record { symbol = s; answer = a }
+enacted s d (made-stale a) = record { symbol = staled s; answer = a }
+enacted s d (applied os) = record { symbol = advanced s os (dealTo (s .trades) d); answer = 0 }
 
 -- all orders go, the symbol is not stale and expects the number given; another number than the expected one loses the mark
 abbrev pub cleared : Symbol → ℕ → Reply
@@ -49,7 +42,7 @@ cleared s next = record { symbol = record { index = s .index; name = s .name; sc
 
 unfoldable pub meets : Symbol → Act Effect → Reply
 meets s (clear index next) = cleared s next
-meets s (numbered index n e) = judged s (s .stale) (ltb n (s .expected)) (ltb (s .expected) n) (applyTo (s .orders) e) (dealOf e)
+meets s (numbered index n e) = enacted s (dealOf e) (ruled (s .stale) (ltb n (s .expected)) (ltb (s .expected) n) (applyTo (s .orders) e))
 
 -- ---- the eight symbols: the next view, and the answer
 pub record Next : Type 0 where
@@ -78,10 +71,10 @@ unfoldable pub meant : Message → Act Effect
 meant (Message.Add h n p v side) = numbered (h .index) (h .number) (Effect.Add n (buys side) p v)
 meant (Message.Modify h n p v position side) = numbered (h .index) (h .number) (Effect.Modify n (buys side) p v)
 meant (Message.Delete h n) = numbered (h .index) (h .number) (Effect.Delete n)
-meant (Message.Execute h n t p v printable) = numbered (h .index) (h .number) (Effect.Execute n v (printed printable t p v))
+meant (Message.Execute h n t p v printable) = numbered (h .index) (h .number) (Effect.Execute n v (ifPrintable printable t p v))
 meant (Message.Replace h old n p v side) = numbered (h .index) (h .number) (Effect.Replace old n (buys side) p v)
 meant (Message.Imbalance h seconds) = numbered (h .index) (h .number) (Effect.Other Deal.Nothing)
-meant (Message.NonDisplayed h t p v printable) = numbered (h .index) (h .number) (Effect.Other (printed printable t p v))
+meant (Message.NonDisplayed h t p v printable) = numbered (h .index) (h .number) (Effect.Other (ifPrintable printable t p v))
 meant (Message.Cross h cross p v class) = numbered (h .index) (h .number) (Effect.Other Deal.Nothing)
 meant (Message.TradeCancel h t) = numbered (h .index) (h .number) (Effect.Other (Deal.Cancels t))
 meant (Message.CrossCorrection h cross v) = numbered (h .index) (h .number) (Effect.Other Deal.Nothing)

@@ -3,7 +3,7 @@ use wire::Head;
 use wire::Message;
 ghost use mathlib.Core.Path.{_≡_};
 ghost use Rattle.feed.specs.Reader.{numbered};
-ghost use Rattle.book.specs.Record.{printed};
+ghost use Rattle.book.specs.Record.{ifPrintable};
 ghost use Rattle.book.specs.Step.{actedAs, meant};
 
 // A symbol clear, with the symbol's index and the next number; or a numbered message, with index, number and effect.
@@ -102,7 +102,7 @@ fn numbered(head: Head, effect: Effect) -> Act
 
 // A trade is recorded with printable 1.
 fn if_printable(printable: u8, trade: u32, price: u32, volume: u32) -> Deal
-    ensures { λ r. ⌜ r ≡ printed printable trade price volume ⌝ }
+    ensures { λ r. ⌜ r ≡ ifPrintable printable trade price volume ⌝ }
 {
     if printable == 1 {
         return Deal::Records(trade, price, volume);

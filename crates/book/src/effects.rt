@@ -13,12 +13,12 @@ use crate::rules::judge_other;
 use crate::rules::judge_replace;
 ghost use Rattle.feed.specs.Reader.{clear};
 ghost use Rattle.book.specs.State.{view};
-ghost use Rattle.book.specs.Promises.{Steps, InTurn, Settles};
+ghost use Rattle.book.specs.Promises.{Steps, Awaits, Settles};
 ghost use Rattle.book.specs.Step.{actOn};
 
 impl Book {
     pub(crate) fn add(self, k: usize, order: u64, buy: bool, price: u32, volume: u32) -> Done
-        requires { ⌜ InTurn self k ⌝ }
+        requires { ⌜ Awaits self k ⌝ }
         ensures { λ r. ⌜ Settles self k (Effect.Add order buy price volume) r ⌝ }
     {
         let i = self.find(k, order);
@@ -28,7 +28,7 @@ impl Book {
     }
 
     pub(crate) fn modify(self, k: usize, order: u64, buy: bool, price: u32, volume: u32) -> Done
-        requires { ⌜ InTurn self k ⌝ }
+        requires { ⌜ Awaits self k ⌝ }
         ensures { λ r. ⌜ Settles self k (Effect.Modify order buy price volume) r ⌝ }
     {
         let i = self.find(k, order);
@@ -38,7 +38,7 @@ impl Book {
     }
 
     pub(crate) fn delete(self, k: usize, order: u64) -> Done
-        requires { ⌜ InTurn self k ⌝ }
+        requires { ⌜ Awaits self k ⌝ }
         ensures { λ r. ⌜ Settles self k (Effect.Delete order) r ⌝ }
     {
         let i = self.find(k, order);
@@ -47,7 +47,7 @@ impl Book {
     }
 
     pub(crate) fn execute(self, k: usize, order: u64, volume: u32, deal: Deal) -> Done
-        requires { ⌜ InTurn self k ⌝ }
+        requires { ⌜ Awaits self k ⌝ }
         ensures { λ r. ⌜ Settles self k (Effect.Execute order volume deal) r ⌝ }
     {
         let i = self.find(k, order);
@@ -66,7 +66,7 @@ impl Book {
         price: u32,
         volume: u32,
     ) -> Done
-        requires { ⌜ InTurn self k ⌝ }
+        requires { ⌜ Awaits self k ⌝ }
         ensures { λ r. ⌜ Settles self k (Effect.Replace old order buy price volume) r ⌝ }
     {
         let i = self.find(k, old);
@@ -78,7 +78,7 @@ impl Book {
 
     // A numbered message that changes no order.
     pub(crate) fn other(self, k: usize, deal: Deal) -> Done
-        requires { ⌜ InTurn self k ⌝ }
+        requires { ⌜ Awaits self k ⌝ }
         ensures { λ r. ⌜ Settles self k (Effect.Other deal) r ⌝ }
     {
         let v = judge_other();

@@ -12,8 +12,8 @@ ghost use lib.Dec.{ltb};
 ghost use Rattle.feed.specs.Reader.{numbered};
 ghost use Rattle.wire.specs.Reading.{decodedAs};
 ghost use Rattle.book.specs.State.{view};
-ghost use Rattle.book.specs.Changes.{turnOf};
-ghost use Rattle.book.specs.Promises.{Steps, InTurn, Settles};
+ghost use Rattle.book.specs.Changes.{turnAnswer};
+ghost use Rattle.book.specs.Promises.{Steps, Awaits, Settles};
 ghost use Rattle.book.specs.Step.{actOn, stepOf};
 
 impl Book {
@@ -60,7 +60,7 @@ impl Book {
     }
 
     fn take(self, k: usize, effect: Effect) -> Done
-        requires { ⌜ InTurn self k ⌝ }
+        requires { ⌜ Awaits self k ⌝ }
         ensures { λ r. ⌜ Settles self k effect r ⌝ }
     {
         match effect {
@@ -83,7 +83,7 @@ impl Book {
 
 // Whether a number is in its turn: 0, or the answer that refuses it. Stale is tested before the number.
 fn turn(stale: bool, expected: u64, number: u32) -> u8
-    ensures { λ r. ⌜ r ≡ turnOf stale (ltb number expected) (ltb expected number) ⌝ }
+    ensures { λ r. ⌜ r ≡ turnAnswer stale (ltb number expected) (ltb expected number) ⌝ }
 {
     let n = number as u64;
     if stale {

@@ -9,7 +9,7 @@ ghost use mathlib.Core.Bool.{true, false, cond};
 ghost use Prim.Native.Nat.{_≤_};
 ghost use lib.Dec.{eqb};
 ghost use lib.ListN.{length};
-ghost use Rattle.book.specs.State.{nameBytes, padded, view, placeOf, vacancyOf};
+ghost use Rattle.book.specs.State.{nameBytes, paddedName, view, placeOf, vacancyOf};
 ghost use Rattle.book.specs.Promises.{Steps};
 ghost use Rattle.book.specs.Registering.{byteBad, nameBad, registerOf, Told};
 
@@ -174,7 +174,7 @@ fn byte_bad(c: u8) -> bool
 // A name with zeros after it.
 fn padded_name(name: &[u8]) -> [u8; NAME]
     requires { ⌜ length (now name) ≤ nameBytes ⌝ }
-    ensures { λ r. ⌜ r ≡ padded (now (name .entry)) ⌝ }
+    ensures { λ r. ⌜ r ≡ paddedName (now (name .entry)) ⌝ }
 {
     let mut a = [0u8; NAME];
     let mut j: usize = 0;

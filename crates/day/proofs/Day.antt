@@ -1,12 +1,12 @@
 -- Each row of the day holds by computation, and the calls' promises cite the rules that were computed; L is the page's marked case.
 use mathlib.Core.List.{List, [], _∷_}
 use mathlib.Core.Path.{_≡_, refl, ap, _∙_}
-use Rattle.wire.specs.Bytes.{value, digits}
+use Rattle.wire.specs.Bytes.{value, littleEndian}
 use Rattle.wire.specs.Table.{shapeOf}
 use Rattle.wire.specs.Fields.{faultBy, faultOf}
 use Rattle.wire.specs.Reading.{reachBy, reachOf, readBy, readBody, readSized, readShape, readTyped, readReached, readOf}
 use Rattle.places.specs.Places.{first, fold, sumBy, insert, remove, look, tabulate}
-use Rattle.book.specs.State.{View, padded, placeOf, symbolIn, vacancyOf}
+use Rattle.book.specs.State.{View, paddedName, placeOf, symbolIn, vacancyOf}
 use Rattle.book.specs.Rules.{applyTo}
 use Rattle.book.specs.Record.{dealTo}
 use Rattle.book.specs.Registering.{nameBad, registerOf, toldOf}
@@ -16,7 +16,8 @@ use Rattle.page.specs.Printing.{lineOf, told}
 use Rattle.page.proofs.Marked as marked
 use Rattle.demands.specs.Examples.{HasABC}
 use Rattle.book.specs.Quote.{bestStep, sharesAt, levelOf, quoteOf}
-use Rattle.book.specs.Step.{judged, meets, actOn, meant, stepOf}
+use Rattle.feed.specs.Reader.{ruled}
+use Rattle.book.specs.Step.{enacted, meets, actOn, meant, stepOf}
 use Rattle.book.specs.Walk.{moveOf, stepsOf}
 use Rattle.demands.specs.Messages.{index}
 use Rattle.demands.proofs.Starting.{began-wf}
@@ -41,12 +42,12 @@ all-by-calls [] h = tt
 all-by-calls (r ∷ rs) h = (by-calls r (h .0), all-by-calls rs (h .1))
 
 by-rule : AllRows Holds rows
-unfolding value digits shapeOf faultBy faultOf reachBy reachOf readBy readBody readSized readShape readTyped readReached readOf first fold sumBy insert remove look placeOf symbolIn vacancyOf applyTo dealTo nameBad registerOf bestStep sharesAt levelOf quoteOf judged meets actOn meant stepOf moveOf stepsOf
+unfolding value littleEndian shapeOf faultBy faultOf reachBy reachOf readBy readBody readSized readShape readTyped readReached readOf first fold sumBy insert remove look placeOf symbolIn vacancyOf applyTo dealTo nameBad registerOf bestStep sharesAt levelOf quoteOf ruled enacted meets actOn meant stepOf moveOf stepsOf
 by-rule = (refl, (refl, (refl, (refl, (refl, (refl, (refl, (refl, (refl, (refl, (refl, (refl, (refl, tt)))))))))))))
 
 -- what is told of ABC is what the marked case has
 abc-told : {b : Book} → HasABC b → told b marked.add ≡ marked.abc
-unfolding first placeOf symbolIn vacancyOf nameBad registerOf toldOf padded tabulate
+unfolding first placeOf symbolIn vacancyOf nameBad registerOf toldOf paddedName tabulate
 abc-told p = ap (λ (v : View). toldOf (symbolIn 7 v)) (has-view p) ∙ refl
 
 line-l : LineL

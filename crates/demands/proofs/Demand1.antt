@@ -12,13 +12,13 @@ use borrow.Author.Tests.{eqb-true, eqb-false}
 use Rattle.wire.specs.Outcome.{Outcome, done, refused}
 use Rattle.wire.specs.Reading.{msgType, reachOf, readOf}
 use Rattle.wire.specs.declared.Message.{Message}
-use Rattle.feed.specs.Reader.{Fit, fits, misfit, no-room, Act, clear, numbered, indexOf}
+use Rattle.feed.specs.Reader.{Fit, fits, misfit, no-room, ruled, Act, clear, numbered, indexOf}
 use Rattle.places.specs.Places.{among}
 use Rattle.book.specs.State.{Symbol, View, view, placeOf, symbolIn}
 use Rattle.book.specs.Rules.{applyTo}
 use Rattle.book.specs.Record.{dealOf}
 use Rattle.book.specs.Registering.{toldOf}
-use Rattle.book.specs.Step.{Next, judged, meets, actAt, actOn, meant, stepOn, stepOf}
+use Rattle.book.specs.Step.{Next, enacted, meets, actAt, actOn, meant, stepOn, stepOf}
 use Rattle.book.specs.Walk.{moveBy, moveOf, walkBy, walkFor, walkOf}
 use Rattle.book.specs.Reached.{Reached}
 use Rattle.book.specs.declared.Book.{Book}
@@ -27,26 +27,26 @@ use Rattle.book.proofs.Isolation.{unregistered-stays, own-symbol, own-symbol-on
 use Rattle.book.proofs.Reaching.{reached-wf}
 use Rattle.demands.specs.Reader.{Orders, Effect}
 use Rattle.demands.specs.Demand1.{liveOf, Demand1}
-use Rattle.demands.proofs.Reading.{Tells, read-tells, reach-refuses}
+use Rattle.wire.proofs.Answers.{Tells, read-tells, reach-refuses}
 
 -- ---- a message: at most 10, and no order changes unless it is done
 record OrdersKept (answer : ℕ) (before after : Orders) : Type 0 where
   pub bound : answer ≤ 10
   pub unless-done : answer ≢ 0 → after ≡ before
 
-judged-keeps : (s : Symbol) (stale below above : Bool) (x : Fit Orders) (d : _) → OrdersKept (judged s stale below above x d .answer) (s .orders) (judged s stale below above x d .symbol .orders)
-unfolding judged
-judged-keeps s true below above x d = record { bound = omega arith; unless-done = λ n. refl }
-judged-keeps s false true above x d = record { bound = omega arith; unless-done = λ n. refl }
-judged-keeps s false false true x d = record { bound = omega arith; unless-done = λ n. refl }
-judged-keeps s false false false misfit d = record { bound = omega arith; unless-done = λ n. refl }
-judged-keeps s false false false no-room d = record { bound = omega arith; unless-done = λ n. refl }
-judged-keeps s false false false (fits os) d = record { bound = omega arith; unless-done = λ n. absurd (n refl) }
+ruled-keeps : (s : Symbol) (stale below above : Bool) (x : Fit Orders) (d : _) → OrdersKept (enacted s d (ruled stale below above x) .answer) (s .orders) (enacted s d (ruled stale below above x) .symbol .orders)
+unfolding enacted ruled
+ruled-keeps s true below above x d = record { bound = omega arith; unless-done = λ n. refl }
+ruled-keeps s false true above x d = record { bound = omega arith; unless-done = λ n. refl }
+ruled-keeps s false false true x d = record { bound = omega arith; unless-done = λ n. refl }
+ruled-keeps s false false false misfit d = record { bound = omega arith; unless-done = λ n. refl }
+ruled-keeps s false false false no-room d = record { bound = omega arith; unless-done = λ n. refl }
+ruled-keeps s false false false (fits os) d = record { bound = omega arith; unless-done = λ n. absurd (n refl) }
 
 meets-keeps : (s : Symbol) (a : Act Effect) → OrdersKept (meets s a .answer) (s .orders) (meets s a .symbol .orders)
 unfolding meets
 meets-keeps s (clear index next) = record { bound = omega arith; unless-done = λ n. absurd (n refl) }
-meets-keeps s (numbered index n e) = judged-keeps s (s .stale) (ltb n (s .expected)) (ltb (s .expected) n) (applyTo (s .orders) e) (dealOf e)
+meets-keeps s (numbered index n e) = ruled-keeps s (s .stale) (ltb n (s .expected)) (ltb (s .expected) n) (applyTo (s .orders) e) (dealOf e)
 
 -- ---- the next view and the answer, of all symbols
 record AllOrdersKept (v : View) (x : Next) : Type 0 where

@@ -12,7 +12,7 @@ use Rattle.wire.specs.declared.Head.{Head}
 use Rattle.wire.specs.declared.Message.{Message}
 use Rattle.wire.proofs.RoundTrip.{read-what-was-written, write-what-was-read}
 use Rattle.book.specs.State.{Symbol, View, view, symbolIn}
-use Rattle.book.specs.Quote.{quoted, quoteOf}
+use Rattle.book.specs.Quote.{quoted, quoteOf, sideOf}
 use Rattle.book.specs.Step.{Next, buys, actOn, meant, stepOn, stepOf}
 use Rattle.book.specs.Walk.{moveBy, moveOf, walkOf, stepsOf, runOf, Moves, Runs}
 use Rattle.book.specs.Reached.{Reached}
@@ -20,10 +20,10 @@ use Rattle.book.specs.declared.Book.{Book}
 use Rattle.book.specs.declared.quote.Level.{Level}
 use Rattle.book.specs.declared.walk.Moved.{Moved}
 use Rattle.book.specs.declared.walk.Ran.{Ran}
-use Rattle.book.proofs.Holding.{at-most-64, one-live}
+use Rattle.book.proofs.Holding.{orders-within, trades-within, one-live, one-kept}
 use Rattle.book.proofs.Isolation.{step-others, apply-others}
 use Rattle.book.proofs.Positions.{position-is-sum}
-use Rattle.book.proofs.Levels.{sideOf, exact-sum, best-price, case-d}
+use Rattle.book.proofs.Levels.{exact-sum, best-price, case-d}
 use Rattle.book.proofs.Reaching.{reached-wf}
 use Rattle.demands.specs.Demand2.{OfSymbol, OfMessage, AllNotFor, OfRun, Demand2, RoundTrips}
 use Rattle.demands.specs.Demand3.{StandsAt, quoteIn}
@@ -71,8 +71,10 @@ module _ {b : Book} (p : Reached b) where
   of-symbol index s e = record {
     exact-sum = λ buy price size. exact-sum buy (view b) index s price size e;
     best-price = λ buy price size. best-price buy (view b) index s price size e;
+    orders-within = orders-within b index s e;
     one-live = one-live b index s e (reached-wf p);
-    at-most-64 = at-most-64 b index s e;
+    trades-within = trades-within b index s e;
+    one-kept = one-kept b index s e (reached-wf p);
   }
 
   of-message : {s : List ℕ} {at : ℕ} {r : Moved} → Moves b s at r → OfMessage b s at r

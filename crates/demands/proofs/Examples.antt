@@ -6,17 +6,17 @@ use Prim.Native.Nat.{ℕ, _+_, _≤_}
 use native.Mathlib.Omega.{arith}
 use borrow.Author.Tests.{lt-ltb}
 use lib.Dec.{eqb}
-use Rattle.wire.specs.Bytes.{value, digits}
+use Rattle.wire.specs.Bytes.{value, littleEndian}
 use Rattle.wire.specs.Table.{shapeOf}
 use Rattle.wire.specs.Fields.{faultBy, faultOf}
 use Rattle.wire.specs.Reading.{reachBy, reachOf, readBy, readBody, readSized, readShape, readTyped, readReached, readOf}
-use Rattle.feed.specs.Reader.{numbered}
+use Rattle.feed.specs.Reader.{ruled, numbered}
 use Rattle.places.specs.Places.{first, among, fold, sumBy, insert, remove, look}
 use Rattle.book.specs.State.{Symbol, View, view, placeOf, symbolIn, vacancyOf, Fresh}
 use Rattle.book.specs.Rules.{applyTo}
 use Rattle.book.specs.Record.{dealTo}
 use Rattle.book.specs.Registering.{nameBad, newSymbol, registerOf}
-use Rattle.book.specs.Step.{judged, meets, put, actOn, meant, stepOf}
+use Rattle.book.specs.Step.{enacted, meets, put, actOn, meant, stepOf}
 use Rattle.book.specs.Quote.{bestStep, sharesAt, levelOf, quoteOf}
 use Rattle.book.specs.Walk.{stepsOf}
 use Rattle.book.specs.Changes.{withHead}
@@ -65,7 +65,7 @@ record AllFair : Type 0 where
   pub along : quotesAlong withLosses ≡ alongLosses
 
 all-fair : AllFair
-unfolding Complete Applied ClearsDelivered sent quotesAlong delivered quoteOf levelOf bestStep sharesAt fold sumBy value digits shapeOf faultBy faultOf reachBy reachOf readBy readBody readSized readShape readTyped readReached readOf first insert remove look placeOf symbolIn vacancyOf applyTo dealTo nameBad registerOf judged meets actOn meant stepOf stepsOf
+unfolding Complete Applied ClearsDelivered sent quotesAlong delivered quoteOf levelOf bestStep sharesAt fold sumBy value littleEndian shapeOf faultBy faultOf reachBy reachOf readBy readBody readSized readShape readTyped readReached readOf first insert remove look placeOf symbolIn vacancyOf applyTo dealTo nameBad registerOf ruled enacted meets actOn meant stepOf stepsOf
 all-fair = record {
   with-losses = record {
     complete = ((((((tt, refl), refl), refl), refl), refl), refl);
@@ -113,7 +113,7 @@ given-in-either-order = met viewABCThenXYZ viewXYZThenABC withLosses (all-fair .
 
 -- Once the last number is applied every further numbered message answers 6, so that a feed that is given goes on with a clear, and nothing can be lost before it.
 pub after-the-last : (s : Symbol) (i n : ℕ) (e : Effect) → s .stale ≡ false → s .expected ≡ last + 1 → n ≤ last → meets s (numbered i n e) .answer ≡ 6
-unfolding meets judged
+unfolding meets ruled enacted
 after-the-last s i n e fresh turn h = rw (fresh, lt-ltb n (s .expected) (omega arith))
 
 -- ---- such a state there is

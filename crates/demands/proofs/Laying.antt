@@ -12,7 +12,7 @@ use Rattle.wire.specs.Reading.{msgSize, reachOf, reachBy}
 use Rattle.wire.proofs.Cases.{reached, reach-size}
 use Rattle.book.proofs.Parts.{reach-more}
 use Rattle.book.specs.Walk.{walkBy, walkFor, walkOf}
-use Rattle.demands.specs.ByteFeed.{ByteFeed, begins, hears, loses, sent, delivered, joined, CompleteMessage, Complete}
+use Rattle.demands.specs.ByteFeed.{ByteFeed, begins, hears, loses, sent, delivered, endToEnd, CompleteMessage, Complete}
 
 abbrev pub AllComplete : List (List ℕ) → Type 0
 AllComplete [] = Unit {0}
@@ -42,23 +42,23 @@ complete-part s n e =
     let size : msgSize (take n s) ≡ n = ap value (take-take 2 n s (omega (arith, r .least))) ∙ r .size in
     reach-size (take n s) (omega (arith, r .least)) (omega (arith, r .least)) (omega arith) ∙ ap done (size ∙ sym long)
 
-walk-joined : (ms : List (List ℕ)) → AllComplete ms → (fuel : ℕ) (s : List ℕ) (at : ℕ) → drop at s ≡ joined ms → length (joined ms) < fuel → walkFor fuel s at .messages ≡ ms
-unfolding walkFor joined reachOf reachBy
-walk-joined [] w zero s at e h = refl
-walk-joined [] w (suc fuel) s at e h = rw e
-walk-joined (m ∷ ms) w zero s at e h = absurd (not-suc-le-zero h)
-walk-joined (m ∷ ms) w (suc fuel) s at e h =
+walk-endToEnd : (ms : List (List ℕ)) → AllComplete ms → (fuel : ℕ) (s : List ℕ) (at : ℕ) → drop at s ≡ endToEnd ms → length (endToEnd ms) < fuel → walkFor fuel s at .messages ≡ ms
+unfolding walkFor endToEnd reachOf reachBy
+walk-endToEnd [] w zero s at e h = refl
+walk-endToEnd [] w (suc fuel) s at e h = rw e
+walk-endToEnd (m ∷ ms) w zero s at e h = absurd (not-suc-le-zero h)
+walk-endToEnd (m ∷ ms) w (suc fuel) s at e h =
     let r = reached m (length m) (w .0) in
-    let n = length-append m (joined ms) in
-    let first : take (length m) (drop at s) ≡ m = ap (take (length m)) e ∙ take-at m (joined ms) (length m) refl in
-    let rest : drop (at + length m) s ≡ joined ms = sym (drop-drop (length m) at s) ∙ ap (drop (length m)) e ∙ drop-at m (joined ms) (length m) refl in
-    let reach : reachOf (drop at s) ≡ done (length m) = ap reachOf e ∙ reach-more m (joined ms) (length m) (w .0) in
+    let n = length-append m (endToEnd ms) in
+    let first : take (length m) (drop at s) ≡ m = ap (take (length m)) e ∙ take-at m (endToEnd ms) (length m) refl in
+    let rest : drop (at + length m) s ≡ endToEnd ms = sym (drop-drop (length m) at s) ∙ ap (drop (length m)) e ∙ drop-at m (endToEnd ms) (length m) refl in
+    let reach : reachOf (drop at s) ≡ done (length m) = ap reachOf e ∙ reach-more m (endToEnd ms) (length m) (w .0) in
     ap (λ (x : Outcome ℕ). walkBy x s at (λ e. walkFor fuel s e) .messages) reach
-    ∙ (λ i. first i ∷ walk-joined ms (w .1) fuel s (at + length m) rest (omega (arith, h, r .least)) i)
+    ∙ (λ i. first i ∷ walk-endToEnd ms (w .1) fuel s (at + length m) rest (omega (arith, h, r .least)) i)
 
-pub walks-messages : (ms : List (List ℕ)) → AllComplete ms → walkOf (joined ms) 0 .messages ≡ ms
+pub walks-messages : (ms : List (List ℕ)) → AllComplete ms → walkOf (endToEnd ms) 0 .messages ≡ ms
 unfolding walkOf
-walks-messages ms w = walk-joined ms w (suc (length (joined ms))) (joined ms) 0 refl (omega arith)
+walks-messages ms w = walk-endToEnd ms w (suc (length (endToEnd ms))) (endToEnd ms) 0 refl (omega arith)
 
 -- ---- and every stream is such: what a walk passes are complete messages, which laid end to end, with what is left, are the stream
 walked-complete : (fuel : ℕ) (s : List ℕ) (at : ℕ) → AllComplete (walkFor fuel s at .messages)
@@ -70,23 +70,23 @@ walked-complete (suc fuel) s at = go (walked-complete fuel s) (reachOf (drop at 
     go ih (refused a) e = tt
     go ih (done n) e = (complete-part (drop at s) n e, ih (at + n))
 
-walked-joined : (fuel : ℕ) (s : List ℕ) (at : ℕ) → joined (walkFor fuel s at .messages) ++ drop (walkFor fuel s at .at) s ≡ drop at s
-unfolding walkFor joined
-walked-joined zero s at = refl
-walked-joined (suc fuel) s at = go (walked-joined fuel s) (reachOf (drop at s))
+walked-endToEnd : (fuel : ℕ) (s : List ℕ) (at : ℕ) → endToEnd (walkFor fuel s at .messages) ++ drop (walkFor fuel s at .at) s ≡ drop at s
+unfolding walkFor endToEnd
+walked-endToEnd zero s at = refl
+walked-endToEnd (suc fuel) s at = go (walked-endToEnd fuel s) (reachOf (drop at s))
   where
-    go : ((e : ℕ) → joined (walkFor fuel s e .messages) ++ drop (walkFor fuel s e .at) s ≡ drop e s) → (x : Outcome ℕ)
-        → joined (walkBy x s at (λ e. walkFor fuel s e) .messages) ++ drop (walkBy x s at (λ e. walkFor fuel s e) .at) s ≡ drop at s
+    go : ((e : ℕ) → endToEnd (walkFor fuel s e .messages) ++ drop (walkFor fuel s e .at) s ≡ drop e s) → (x : Outcome ℕ)
+        → endToEnd (walkBy x s at (λ e. walkFor fuel s e) .messages) ++ drop (walkBy x s at (λ e. walkFor fuel s e) .at) s ≡ drop at s
     go ih (refused a) = refl
     go ih (done n) =
-        append-assoc (take n (drop at s)) (joined (walkFor fuel s (at + n) .messages)) (drop (walkFor fuel s (at + n) .at) s)
+        append-assoc (take n (drop at s)) (endToEnd (walkFor fuel s (at + n) .messages)) (drop (walkFor fuel s (at + n) .at) s)
         ∙ ap (λ (l : List ℕ). take n (drop at s) ++ l) (ih (at + n) ∙ sym (drop-drop n at s))
         ∙ take-append-drop n (drop at s)
 
 pub record Laid (s : List ℕ) (at : ℕ) : Type 0 where
   pub complete : AllComplete (walkOf s at .messages)
-  pub stream : joined (walkOf s at .messages) ++ drop (walkOf s at .at) s ≡ drop at s
+  pub stream : endToEnd (walkOf s at .messages) ++ drop (walkOf s at .at) s ≡ drop at s
 
 pub every-stream : (s : List ℕ) (at : ℕ) → Laid s at
 unfolding walkOf
-every-stream s at = record { complete = walked-complete (suc (length s)) s at; stream = walked-joined (suc (length s)) s at }
+every-stream s at = record { complete = walked-complete (suc (length s)) s at; stream = walked-endToEnd (suc (length s)) s at }

@@ -1,5 +1,4 @@
 pub mod Reader
-pub mod Reading
 pub mod Starting
 pub mod Laying
 pub mod Translating

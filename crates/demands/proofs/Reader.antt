@@ -2,46 +2,38 @@
 use mathlib.Core.Bool.{Bool, true, false}
 use mathlib.Core.Option.{Option, none, some}
 use mathlib.Core.Path.{_≡_, refl, ap}
-use Prim.Native.Nat.{ℕ, _+_}
-use lib.Dec.{ltb}
-use Rattle.feed.specs.Reader.{Fit, fits, misfit, no-room, Act, clear, numbered, indexOf, Reader, answerOf, afterOf}
+use Prim.Native.Nat.{ℕ}
+use Rattle.feed.specs.Reader.{Ruling, unchanged, made-stale, applied, replied, Act, clear, numbered, indexOf, Reader, answerOf, afterOf}
 use Rattle.feed.specs.Reader as feed
 use Rattle.book.specs.State.{Symbol, View, placeOf, symbolIn}
-use Rattle.book.specs.Rules.{applyTo}
 use Rattle.book.specs.Record.{dealOf}
-use Rattle.book.specs.Step.{judged, meets, actAt, actOn}
+use Rattle.book.specs.Step.{enacted, meets, actAt, actOn}
 use Rattle.book.specs.Quote.{quoted, quoteOf}
 use Rattle.book.proofs.Isolation.{unregistered-stays, own-symbol, own-symbol-only}
 use Rattle.demands.specs.Reader.{pillar, Orders, Effect, keptOf, keptIf, keptIn, asQuote}
 
 -- ---- one symbol: name, scale and record are not feed's affair
-judged-answers : (s : Symbol) (stale below above : Bool) (x : Fit Orders) (d : _) → judged s stale below above x d .answer ≡ feed.judged (keptOf s) stale below above x .answer
-unfolding judged feed.judged
-judged-answers s true below above x d = refl
-judged-answers s false true above x d = refl
-judged-answers s false false true x d = refl
-judged-answers s false false false misfit d = refl
-judged-answers s false false false no-room d = refl
-judged-answers s false false false (fits os) d = refl
+enacted-answers : (s : Symbol) (d : _) (r : Ruling Orders) → enacted s d r .answer ≡ replied (keptOf s) r .answer
+unfolding enacted replied
+enacted-answers s d (unchanged a) = refl
+enacted-answers s d (made-stale a) = refl
+enacted-answers s d (applied os) = refl
 
-judged-keeps : (s : Symbol) (stale below above : Bool) (x : Fit Orders) (d : _) → s .stale ≡ stale → keptOf (judged s stale below above x d .symbol) ≡ feed.judged (keptOf s) stale below above x .after
-unfolding judged feed.judged
-judged-keeps s true below above x d e = refl
-judged-keeps s false true above x d e = refl
-judged-keeps s false false true x d e = refl
-judged-keeps s false false false misfit d e = refl
-judged-keeps s false false false no-room d e = refl
-judged-keeps s false false false (fits os) d e = λ i. record { expected = s .expected + 1; stale = e i; orders = os }
+enacted-keeps : (s : Symbol) (d : _) (r : Ruling Orders) → keptOf (enacted s d r .symbol) ≡ replied (keptOf s) r .after
+unfolding enacted replied
+enacted-keeps s d (unchanged a) = refl
+enacted-keeps s d (made-stale a) = refl
+enacted-keeps s d (applied os) = refl
 
 meets-answers : (s : Symbol) (m : Act Effect) → meets s m .answer ≡ feed.meets pillar (keptOf s) m .answer
 unfolding meets feed.meets
 meets-answers s (clear index next) = refl
-meets-answers s (numbered index n e) = judged-answers s (s .stale) (ltb n (s .expected)) (ltb (s .expected) n) (applyTo (s .orders) e) (dealOf e)
+meets-answers s (numbered index n e) = enacted-answers s (dealOf e) _
 
 meets-keeps : (s : Symbol) (m : Act Effect) → keptOf (meets s m .symbol) ≡ feed.meets pillar (keptOf s) m .after
 unfolding meets feed.meets
 meets-keeps s (clear index next) = refl
-meets-keeps s (numbered index n e) = judged-keeps s (s .stale) (ltb n (s .expected)) (ltb (s .expected) n) (applyTo (s .orders) e) (dealOf e) refl
+meets-keeps s (numbered index n e) = enacted-keeps s (dealOf e) _
 
 -- ---- the eight symbols: feed's three laws
 module _ (v : View) (m : Act Effect) where

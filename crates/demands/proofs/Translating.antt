@@ -19,7 +19,7 @@ use Rattle.demands.specs.Reader.{pillar, Effect, keptIf, keptIn, Registe
 use Rattle.demands.specs.ByteFeed.{ByteFeed, begins, hears, loses, sent, delivered, Applied, ClearsDelivered, said, actIn, feedOf, IsDone}
 use Rattle.demands.specs.Demand3.{Given}
 use Rattle.demands.proofs.Reader.{reader}
-use Rattle.demands.proofs.Reading.{Tells, read-tells}
+use Rattle.wire.proofs.Answers.{Tells, read-tells}
 use Rattle.demands.proofs.Starting.{began-new}
 
 -- ---- one message

@@ -31,9 +31,9 @@ delivered (hears f m) = delivered f ++ m ∷ []
 delivered (loses f m) = delivered f
 
 -- messages laid end to end
-unfoldable pub joined : List (List ℕ) → List ℕ
-joined [] = []
-joined (m ∷ ms) = m ++ joined ms
+unfoldable pub endToEnd : List (List ℕ) → List ℕ
+endToEnd [] = []
+endToEnd (m ∷ ms) = m ++ endToEnd ms
 
 -- h is f, or an earlier moment of it
 pub data Moment (h : ByteFeed) : ByteFeed → Type 0 where

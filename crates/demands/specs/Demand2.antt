@@ -17,16 +17,15 @@ use Rattle.wire.specs.declared.Head.{Head}
 use Rattle.wire.specs.declared.Message.{Message}
 use Rattle.feed.specs.Reader.{indexOf}
 use Rattle.places.specs.Places.{count, sumBy}
-use Rattle.book.specs.State.{ordersEach, orderNumber, Symbol, view, symbolIn}
+use Rattle.book.specs.State.{ordersEach, tradesEach, orderNumber, tradeNumber, Symbol, view, symbolIn}
 use Rattle.book.specs.Promises.{Obeys}
-use Rattle.book.specs.Quote.{counts, sharesAt}
+use Rattle.book.specs.Quote.{counts, sharesAt, sideOf, NoBetter}
 use Rattle.book.specs.Step.{buys, meant}
 use Rattle.book.specs.Walk.{moveOf, walkOf, runOf, Moves, Runs}
 use Rattle.book.specs.declared.Book.{Book}
 use Rattle.book.specs.declared.quote.Level.{Level}
 use Rattle.book.specs.declared.walk.Moved.{Moved}
 use Rattle.book.specs.declared.walk.Ran.{Ran}
-use Rattle.book.proofs.Levels.{sideOf, NoBetter}
 use Rattle.demands.specs.Demand3.{StandsAt, quoteIn}
 
 -- the message is not for the symbol; one that reading refuses is for nobody
@@ -39,9 +38,11 @@ pub record OfSymbol (b : Book) (index : ℕ) (s : Symbol) : Type 0 where
   pub exact-sum : (buy : Bool) (price size : ℕ) → sideOf buy (quoteIn b index) ≡ Level.Best price size → size ≡ sumBy (sharesAt buy price) (s .orders)
   -- and no live order of its side is better
   pub best-price : (buy : Bool) (price size : ℕ) → sideOf buy (quoteIn b index) ≡ Level.Best price size → (o : _) → List·Memᴰ o (s .orders) → counts buy o ≡ true → NoBetter buy price (o .price)
-  -- at most one live order of a number, and at most 64 live
+  -- no more live orders than a symbol's places, and at most one of a number; of the kept trades likewise
+  pub orders-within : length (s .orders) ≤ ordersEach
   pub one-live : (number : ℕ) → count (λ o. eqb (orderNumber o) number) (s .orders) ≤ 1
-  pub at-most-64 : length (s .orders) ≤ ordersEach
+  pub trades-within : length (s .trades) ≤ tradesEach
+  pub one-kept : (number : ℕ) → count (λ t. eqb (tradeNumber t) number) (s .trades) ≤ 1
 
 -- ---- of a message: what `apply` makes of it at a position
 pub record OfMessage (b : Book) (s : List ℕ) (at : ℕ) (r : Moved) : Type 0 where

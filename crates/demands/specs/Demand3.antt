@@ -23,7 +23,7 @@ use Rattle.book.specs.declared.quote.Quote.{Quote}
 use Rattle.book.specs.declared.walk.Moved.{Moved}
 use Rattle.book.specs.declared.walk.Ran.{Ran}
 use Rattle.demands.specs.Reader.{pillar, Effect, Registered}
-use Rattle.demands.specs.ByteFeed.{ByteFeed, hears, sent, delivered, joined, Moment, Complete, Applied, ClearsDelivered, actIn, feedOf}
+use Rattle.demands.specs.ByteFeed.{ByteFeed, hears, sent, delivered, endToEnd, Moment, Complete, Applied, ClearsDelivered, actIn, feedOf}
 
 -- ---- the states of a reader, by the promises of the calls that hand them back
 -- a new state with symbols registered, in any order and whatever registering answers
@@ -52,7 +52,7 @@ pub data Reads (b : Book) : List (List ℕ) → Book → Type 0 where
 
 -- the same by one run over the messages laid end to end, as those of every stream are (`every-stream`)
 pub data RunsOver (b : Book) (ms : List (List ℕ)) : Book → Type 0 where
-  ran : {r : Ran} → Runs b (joined ms) 0 r → RunsOver b ms (r .book)
+  ran : {r : Ran} → Runs b (endToEnd ms) 0 r → RunsOver b ms (r .book)
 
 -- ---- what is given: two readers, new and with the same symbols registered before the feed starts, and a feed that one receiving all of it applies without one
 -- refusal; what is lost of it is numbered

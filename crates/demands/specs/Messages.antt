@@ -1,14 +1,14 @@
 -- Messages of symbol ABC as bytes, laid out as document 01's table says: index 7, 125 nanoseconds, firm FIRM1; and what is quoted of it.
 use Prim.Native.Nat.{ℕ}
 use mathlib.Core.List.{List, [], _∷_, _++_}
-use Rattle.wire.specs.Bytes.{digits}
+use Rattle.wire.specs.Bytes.{littleEndian}
 use Rattle.book.specs.declared.quote.Level.{Level}
 use Rattle.book.specs.declared.quote.Quote.{Quote}
 
 -- fields one after the other, each with its size
-abbrev pub laid : List (ℕ × ℕ) → List ℕ
-laid [] = []
-laid (f ∷ fs) = digits (f .0) (f .1) ++ laid fs
+abbrev pub fieldBytes : List (ℕ × ℕ) → List ℕ
+fieldBytes [] = []
+fieldBytes (f ∷ fs) = littleEndian (f .0) (f .1) ++ fieldBytes fs
 
 abbrev pub index : ℕ
 index = 7
@@ -21,23 +21,23 @@ sell = 83
 
 abbrev pub add : (number order side price volume : ℕ) → List ℕ
 add number order side price volume =
-    laid ((2, 39) ∷ (2, 100) ∷ (4, 125) ∷ (4, index) ∷ (4, number) ∷ (8, order) ∷ (4, price) ∷ (4, volume) ∷ (1, side) ∷ (1, 70) ∷ (1, 73) ∷ (1, 82) ∷ (1, 77) ∷ (1, 49) ∷ (1, 0) ∷ [])
+    fieldBytes ((2, 39) ∷ (2, 100) ∷ (4, 125) ∷ (4, index) ∷ (4, number) ∷ (8, order) ∷ (4, price) ∷ (4, volume) ∷ (1, side) ∷ (1, 70) ∷ (1, 73) ∷ (1, 82) ∷ (1, 77) ∷ (1, 49) ∷ (1, 0) ∷ [])
 
 abbrev pub delete : (number order : ℕ) → List ℕ
-delete number order = laid ((2, 25) ∷ (2, 102) ∷ (4, 125) ∷ (4, index) ∷ (4, number) ∷ (8, order) ∷ (1, 0) ∷ [])
+delete number order = fieldBytes ((2, 25) ∷ (2, 102) ∷ (4, 125) ∷ (4, index) ∷ (4, number) ∷ (8, order) ∷ (1, 0) ∷ [])
 
 -- printed under a trade number, with no conditions
 abbrev pub execute : (number order trade price volume : ℕ) → List ℕ
 execute number order trade price volume =
-    laid ((2, 42) ∷ (2, 103) ∷ (4, 125) ∷ (4, index) ∷ (4, number) ∷ (8, order) ∷ (4, trade) ∷ (4, price) ∷ (4, volume) ∷ (1, 1) ∷ (1, 0) ∷ (4, 0) ∷ [])
+    fieldBytes ((2, 42) ∷ (2, 103) ∷ (4, 125) ∷ (4, index) ∷ (4, number) ∷ (8, order) ∷ (4, trade) ∷ (4, price) ∷ (4, volume) ∷ (1, 1) ∷ (1, 0) ∷ (4, 0) ∷ [])
 
 abbrev pub replace : (number order new-order side price volume : ℕ) → List ℕ
 replace number order new-order side price volume =
-    laid ((2, 42) ∷ (2, 104) ∷ (4, 125) ∷ (4, index) ∷ (4, number) ∷ (8, order) ∷ (8, new-order) ∷ (4, price) ∷ (4, volume) ∷ (1, side) ∷ (1, 0) ∷ [])
+    fieldBytes ((2, 42) ∷ (2, 104) ∷ (4, 125) ∷ (4, index) ∷ (4, number) ∷ (8, order) ∷ (8, new-order) ∷ (4, price) ∷ (4, volume) ∷ (1, side) ∷ (1, 0) ∷ [])
 
 -- at second 34,200
 abbrev pub clear : (next : ℕ) → List ℕ
-clear next = laid ((2, 20) ∷ (2, 32) ∷ (4, 34200) ∷ (4, 125) ∷ (4, index) ∷ (4, next) ∷ [])
+clear next = fieldBytes ((2, 20) ∷ (2, 32) ∷ (4, 34200) ∷ (4, 125) ∷ (4, index) ∷ (4, next) ∷ [])
 
 -- ---- what is quoted of it: for each side none, or so many shares at a price
 abbrev pub none : Level

@@ -9,7 +9,7 @@ use mathlib.Core.Path.{_≡_, refl, sym, _∙_}
 use lib.Dec.{eqb}
 use borrow.Author.Tests.{eqb-true, eqb-false}
 use Rattle.feed.specs.Reader.{Act, clear, numbered, indexOf, Rules, Kept, meets, answerOf, afterOf, quoteOf, New, unregistered, registered, Reader}
-use Rattle.feed.specs.Feed.{heard, lost, Feed, start, _▷_, Phase, agrees, behind, refuses, hears, loses, moves, phase, ClearsHeard, first, second, Accepted, Given}
+use Rattle.feed.specs.Feed.{heard, lost, Feed, start, _▷_, Phase, agrees, behind, refuses, afterHearing, afterLosing, moves, phase, ClearsHeard, first, second, Accepted, Given}
 use Rattle.feed.specs.Demand3.{answered, Quotes}
 use Rattle.feed.proofs.Meets.{done, above, still-stale, own-at, says-at}
 
@@ -22,8 +22,8 @@ data Holds {E O : Type 0} (was : Feed E → Option (Kept O)) : Phase E → Optio
 module _ (R : Rules) {was : Feed (R .Effect) → Option (Kept (R .Orders))} where
   -- a message of the symbol that the first reader applies, and the second hears: what it answers, and what is kept after it
   heard-holds : {p : Phase (R .Effect)} {a b : Option (Kept (R .Orders))} (m : Act (R .Effect)) → Holds was p a b → answerOf R a m ≡ 0 →
-      (answerOf R b m ≡ answered p m) × Holds was (hears p m) (afterOf R a m) (afterOf R b m)
-  unfolding hears answered answerOf afterOf meets
+      (answerOf R b m ≡ answered p m) × Holds was (afterHearing p m) (afterOf R a m) (afterOf R b m)
+  unfolding afterHearing answered answerOf afterOf meets
   heard-holds (clear index next) same h = (h, same)
   heard-holds (clear index next) (older w live lower) h = (refl, same)
   heard-holds (clear index next) (gone {a = none} st) h = absurd (omega arith)
@@ -38,8 +38,8 @@ module _ (R : Rules) {was : Feed (R .Effect) → Option (Kept (R .Orders))} wher
 
   -- a numbered message of the symbol that the first reader applies, and the second loses
   lost-holds : {p : Phase (R .Effect)} {a b : Option (Kept (R .Orders))} (f : Feed (R .Effect)) (index number : ℕ) (effect : R .Effect) → was f ≡ a → Holds was p a b →
-      answerOf R a (numbered index number effect) ≡ 0 → Holds was (loses p f) (afterOf R a (numbered index number effect)) b
-  unfolding loses answerOf afterOf
+      answerOf R a (numbered index number effect) ≡ 0 → Holds was (afterLosing p f) (afterOf R a (numbered index number effect)) b
+  unfolding afterLosing answerOf afterOf
   lost-holds f index number effect w (same {a = none}) h = absurd (omega arith)
   lost-holds f index number effect w (same {a = some k}) h =
       let d = done R k index number effect h in
@@ -54,14 +54,14 @@ module _ (R : Rules) (D : Reader R) (s₀ t₀ : D .State) (i : ℕ) where
 
   -- a message of any symbol
   heard-held : {p : Phase (R .Effect)} (s t : D .State) (m : Act (R .Effect)) (own : Bool) → eqb i (indexOf m) ≡ own → Held p s t → D .answer s m ≡ 0 →
-      Held (cond own (hears p m) p) (D .step s m) (D .step t m)
+      Held (cond own (afterHearing p m) p) (D .step s m) (D .step t m)
   heard-held s t m true q h a =
       let e = eqb-true i (indexOf m) q in
       rw (own-at R D s m i e, own-at R D t m i e) (heard-holds R m h (sym (says-at R D s m i e) ∙ a) .1)
   heard-held s t m false q h a = let ne = eqb-false i (indexOf m) q in rw (D .other s m i ne, D .other t m i ne) h
 
   lost-held : {p : Phase (R .Effect)} (f : Feed (R .Effect)) (t : D .State) (index number : ℕ) (effect : R .Effect) (own : Bool) → eqb i index ≡ own →
-      Held p (first R D s₀ f) t → D .answer (first R D s₀ f) (numbered index number effect) ≡ 0 → Held (cond own (loses p f) p) (D .step (first R D s₀ f) (numbered index number effect)) t
+      Held p (first R D s₀ f) t → D .answer (first R D s₀ f) (numbered index number effect) ≡ 0 → Held (cond own (afterLosing p f) p) (D .step (first R D s₀ f) (numbered index number effect)) t
   lost-held f t index number effect true q h a =
       let e = eqb-true i index q in
       rw (own-at R D (first R D s₀ f) (numbered index number effect) i e)

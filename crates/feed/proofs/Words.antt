@@ -5,8 +5,8 @@ use mathlib.Core.Path.{_≡_, refl, _∙_, ap}
 use lib.Dec.{eqb}
 use borrow.Author.Tests.{eqb-true, eqb-false, eq-eqb}
 use Rattle.feed.specs.Reader.{Act, clear, numbered, indexOf}
-use Rattle.feed.specs.Feed.{Item, heard, lost, Feed, start, _▷_, Phase, agrees, behind, refuses, hears, loses, moves, phase}
-use Rattle.feed.specs.Demand3.{Since, here, more, Fresh, at-start, at-clear, NotLost, NotHeard, NotCleared, NoneLost, AfterLoss, UntilClear, Stands, none-lost, after-loss, until-clear}
+use Rattle.feed.specs.Feed.{Item, heard, lost, Feed, start, _▷_, Phase, agrees, behind, refuses, afterHearing, afterLosing, moves, phase}
+use Rattle.feed.specs.Demand3.{Since, here, more, CountsFrom, at-start, at-clear, NotLost, NotHeard, NotCleared, NoneLost, AfterLoss, UntilClear, Stands, none-lost, after-loss, until-clear}
 
 module _ {E : Type 0} (i : ℕ) where
   -- an item leaves the phase alone if it does where it is the symbol's
@@ -21,7 +21,7 @@ module _ {E : Type 0} (i : ℕ) where
   Allows refuses = NotCleared i
 
   allowed-stays : (p : Phase E) (f : Feed E) (it : Item E) → Allows p it → moves i p f it ≡ p
-  unfolding moves hears loses Allows NotLost NotHeard NotCleared
+  unfolding moves afterHearing afterLosing Allows NotLost NotHeard NotCleared
   allowed-stays agrees f (heard (clear index next)) x = stays (eqb i index) (λ own. refl)
   allowed-stays agrees f (heard (numbered index number effect)) x = stays (eqb i index) (λ own. refl)
   allowed-stays agrees f (lost m) x = stays (eqb i (indexOf m)) (λ own. absurd (x (eqb-true i (indexOf m) own)))
@@ -36,8 +36,8 @@ module _ {E : Type 0} (i : ℕ) where
   stays-since p here e = e
   stays-since p (more {f = f} {it = it} r x) e = ap (λ (q : Phase E). moves i q f it) (stays-since p r e) ∙ allowed-stays p f it x
 
-  fresh-agrees : {g : Feed E} → Fresh i g → phase i g ≡ agrees
-  unfolding phase moves hears
+  fresh-agrees : {g : Feed E} → CountsFrom i g → phase i g ≡ agrees
+  unfolding phase moves afterHearing
   fresh-agrees at-start = refl
   fresh-agrees at-clear = rw (eq-eqb i i refl)
 
@@ -46,7 +46,7 @@ module _ {E : Type 0} (i : ℕ) where
   none-lost-agrees n = stays-since agrees (n .since) (fresh-agrees (n .fresh))
 
   at-loss : (h : Feed E) (m : Act E) → i ≡ indexOf m → phase i h ≡ agrees → phase i (h ▷ lost m) ≡ behind h
-  unfolding phase moves loses
+  unfolding phase moves afterLosing
   at-loss h m own e = rw (eq-eqb i (indexOf m) own, e)
 
   after-loss-behind : {h f : Feed E} → AfterLoss i h f → phase i f ≡ behind h
@@ -54,7 +54,7 @@ module _ {E : Type 0} (i : ℕ) where
   after-loss-behind {h = h} a = stays-since (behind h) (a .since) (at-loss h (a .message) (a .own) (none-lost-agrees (a .none-before)))
 
   at-next : (h k : Feed E) (number : ℕ) (effect : E) → phase i k ≡ behind h → phase i (k ▷ heard (numbered i number effect)) ≡ refuses
-  unfolding phase moves hears
+  unfolding phase moves afterHearing
   at-next h k number effect e = rw (eq-eqb i i refl, e)
 
   until-clear-refuses : {f : Feed E} → UntilClear i f → phase i f ≡ refuses
@@ -90,16 +90,16 @@ module _ {E : Type 0} (i : ℕ) where
   other-lost (behind h) m ne = tt
   other-lost refuses m ne = tt
 
-  stands-heard : {f : Feed E} {p : Phase E} (m : Act E) → i ≡ indexOf m → Stands i f p → Stands i (f ▷ heard m) (hears p m)
-  unfolding hears Allows NotLost NotCleared
+  stands-heard : {f : Feed E} {p : Phase E} (m : Act E) → i ≡ indexOf m → Stands i f p → Stands i (f ▷ heard m) (afterHearing p m)
+  unfolding afterHearing Allows NotLost NotCleared
   stands-heard {f = f} (clear index next) e x = rw (← e) (none-lost (record { from = f ▷ heard (clear i next); fresh = at-clear; since = here }))
   stands-heard (numbered index number effect) e (none-lost n) = stands-on (heard (numbered index number effect)) (none-lost n) tt
   stands-heard {f = f} (numbered index number effect) e (after-loss {h = h} a) =
       rw (← e) (until-clear (record { before-loss = h; before-next = f; loss = a; number = number; effect = effect; since = here }))
   stands-heard (numbered index number effect) e (until-clear u) = stands-on (heard (numbered index number effect)) (until-clear u) tt
 
-  stands-lost : {f : Feed E} {p : Phase E} (m : Act E) → i ≡ indexOf m → Stands i f p → Stands i (f ▷ lost m) (loses p f)
-  unfolding loses Allows NotHeard NotCleared
+  stands-lost : {f : Feed E} {p : Phase E} (m : Act E) → i ≡ indexOf m → Stands i f p → Stands i (f ▷ lost m) (afterLosing p f)
+  unfolding afterLosing Allows NotHeard NotCleared
   stands-lost m e (none-lost n) = after-loss (record { none-before = n; message = m; own = e; since = here })
   stands-lost m e (after-loss a) = stands-on (lost m) (after-loss a) tt
   stands-lost m e (until-clear u) = stands-on (lost m) (until-clear u) tt

@@ -13,9 +13,9 @@ pub data Since {E : Type 0} (P : Item E → Type 0) (g : Feed E) : Feed E → Ty
 
 module _ {E : Type 0} (i : ℕ) where
   -- where counting begins: at the start, or at a clear of the symbol
-  pub data Fresh : Feed E → Type 0 where
-    at-start : Fresh start
-    at-clear : {f : Feed E} {next : ℕ} → Fresh (f ▷ heard (clear i next))
+  pub data CountsFrom : Feed E → Type 0 where
+    at-start : CountsFrom start
+    at-clear : {f : Feed E} {next : ℕ} → CountsFrom (f ▷ heard (clear i next))
 
   -- nothing of the symbol is lost here; other symbols' losses do not matter
   unfoldable pub NotLost : Item E → Type 0
@@ -36,7 +36,7 @@ module _ {E : Type 0} (i : ℕ) where
   -- Counted from a clear of the symbol or the start, none of its messages is lost. Any clear may be taken, so also the last one.
   pub record NoneLost (f : Feed E) : Type 0 where
     pub from : Feed E
-    pub fresh : Fresh from
+    pub fresh : CountsFrom from
     pub since : Since NotLost from f
 
   -- After a loss: h is the moment just before the first lost message, and nothing of the symbol was heard since

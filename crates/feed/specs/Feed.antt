@@ -27,22 +27,22 @@ pub data Phase (E : Type 0) : Type 0 where
 
 module _ {E : Type 0} where
   -- a message of the symbol is heard
-  unfoldable pub hears : Phase E → Act E → Phase E
-  hears p (clear index next) = agrees
-  hears agrees (numbered index number effect) = agrees
-  hears (behind g) (numbered index number effect) = refuses
-  hears refuses (numbered index number effect) = refuses
+  unfoldable pub afterHearing : Phase E → Act E → Phase E
+  afterHearing p (clear index next) = agrees
+  afterHearing agrees (numbered index number effect) = agrees
+  afterHearing (behind g) (numbered index number effect) = refuses
+  afterHearing refuses (numbered index number effect) = refuses
 
   -- a message of the symbol is lost just after the moment f
-  unfoldable pub loses : Phase E → Feed E → Phase E
-  loses agrees f = behind f
-  loses (behind g) f = behind g
-  loses refuses f = refuses
+  unfoldable pub afterLosing : Phase E → Feed E → Phase E
+  afterLosing agrees f = behind f
+  afterLosing (behind g) f = behind g
+  afterLosing refuses f = refuses
 
   -- a message moves the phase of its own symbol alone: other symbols' losses do not matter
   unfoldable pub moves : ℕ → Phase E → Feed E → Item E → Phase E
-  moves i p f (heard m) = cond (eqb i (indexOf m)) (hears p m) p
-  moves i p f (lost m) = cond (eqb i (indexOf m)) (loses p f) p
+  moves i p f (heard m) = cond (eqb i (indexOf m)) (afterHearing p m) p
+  moves i p f (lost m) = cond (eqb i (indexOf m)) (afterLosing p f) p
 
   unfoldable pub phase : ℕ → Feed E → Phase E
   phase i start = agrees

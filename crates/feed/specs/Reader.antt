@@ -37,6 +37,22 @@ pub record Kept (O : Type 0) : Type 0 where
   pub stale : Bool
   pub orders : O
 
+-- What document 01 rules of a numbered message: refused with this number and nothing changes, refused and the symbol becomes stale, or applied, with these orders after it
+pub data Ruling (O : Type 0) : Type 0 where
+  unchanged : (answer : ℕ) → Ruling O
+  made-stale : (answer : ℕ) → Ruling O
+  applied : O → Ruling O
+
+-- By its tests in the order in which document 01 checks them: is the symbol stale, is the number below the expected one, is it above, does the message fit. One
+-- clause for each row of "Numbers answered".
+unfoldable pub ruled : {O : Type 0} → (stale below above : Bool) → Fit O → Ruling O
+ruled true below above fit = unchanged 8
+ruled false true above fit = unchanged 6
+ruled false false true fit = made-stale 7
+ruled false false false misfit = made-stale 9
+ruled false false false no-room = made-stale 10
+ruled false false false (fits orders) = applied orders
+
 -- What a message comes to: document 01's number, and what is kept after it
 pub record Reply (O : Type 0) : Type 0 where
   pub answer : ℕ
@@ -47,27 +63,11 @@ module _ {O : Type 0} where
   abbrev pub expecting : ℕ → O → Kept O
   expecting number orders = record { expected = number; stale = false; orders = orders }
 
-  -- The three ways in which a numbered message can end: a refusal that changes nothing,
-  abbrev pub unchanged : ℕ → Kept O → Reply O
-  unchanged answer k = record { answer = answer; after = k }
-
-  -- one that makes the symbol stale, and changes no order and no expected number,
-  abbrev pub made-stale : ℕ → Kept O → Reply O
-  made-stale answer k = record { answer = answer; after = record { expected = k .expected; stale = true; orders = k .orders } }
-
-  -- and done: the orders are the new ones, and the expected number is one higher
-  abbrev pub applied : Kept O → O → Reply O
-  applied k orders = record { answer = 0; after = expecting (k .expected + 1) orders }
-
-  -- A numbered message, by its tests in the order in which document 01 checks them: is the symbol stale, is the number below the expected one, is it above, does
-  -- the message fit. One clause for each row of "Numbers answered".
-  unfoldable pub judged : Kept O → Bool → Bool → Bool → Fit O → Reply O
-  judged k true below above fit = unchanged 8 k
-  judged k false true above fit = unchanged 6 k
-  judged k false false true fit = made-stale 7 k
-  judged k false false false misfit = made-stale 9 k
-  judged k false false false no-room = made-stale 10 k
-  judged k false false false (fits orders) = applied k orders
+  -- A ruling carried out. A refusal changes no order and no expected number; an applied message raises the expected number by one
+  unfoldable pub replied : Kept O → Ruling O → Reply O
+  replied k (unchanged answer) = record { answer = answer; after = k }
+  replied k (made-stale answer) = record { answer = answer; after = record { expected = k .expected; stale = true; orders = k .orders } }
+  replied k (applied orders) = record { answer = 0; after = record { expected = k .expected + 1; stale = k .stale; orders = orders } }
 
 -- A quote: refused with its number, or what is shown
 pub data Quote (Q : Type 0) : Type 0 where
@@ -78,7 +78,7 @@ module _ (R : Rules) where
   -- A registered symbol meets a message of its own. A clear is never refused: all orders go, the symbol is not stale and expects the number given.
   unfoldable pub meets : Kept (R .Orders) → Act (R .Effect) → Reply (R .Orders)
   meets k (clear index next) = record { answer = 0; after = expecting next (R .empty) }
-  meets k (numbered index number effect) = judged k (k .stale) (ltb number (k .expected)) (ltb (k .expected) number) (R .apply (k .orders) effect)
+  meets k (numbered index number effect) = replied k (ruled (k .stale) (ltb number (k .expected)) (ltb (k .expected) number) (R .apply (k .orders) effect))
 
   -- the same where the symbol may not be registered: then the answer is 5, and nothing is kept
   unfoldable pub answerOf : Option (Kept (R .Orders)) → Act (R .Effect) → ℕ

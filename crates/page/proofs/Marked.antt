@@ -5,7 +5,7 @@ use Prim.Native.Nat.{ℕ, zero, suc, _+_, _≤_}
 use Prim.Native.Char.{code}
 use Prim.Native.String.{String, len, charAt}
 use lib.ListN.{length, drop}
-use Rattle.wire.specs.Bytes.{padded}
+use Rattle.wire.specs.Bytes.{paddedPlain}
 use Rattle.wire.specs.Outcome.{done}
 use Rattle.wire.specs.Writing.{refuse}
 use Rattle.wire.specs.Message.{hasBadField}
@@ -36,7 +36,7 @@ abbrev pub add : Message
 add = Add (record { nanos = 125; index = 7; number = 3 }) 1001 1234500 200 66
 
 abbrev pub firm : List ℕ
-firm = padded (ascii "FIRM1")
+firm = paddedPlain (ascii "FIRM1")
 
 abbrev pub lineL : List ℕ
 lineL = ascii "100,57,09:30:00.000000125,ABC,3,1001,123.4500,200,B,FIRM1,0\n"

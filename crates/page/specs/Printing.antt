@@ -7,7 +7,7 @@ use lib.ListN.{length, drop}
 use lib.Dec.{ltb, eqb}
 use Rattle.wire.specs.Outcome.{Outcome, done, refused}
 use Rattle.wire.specs.Writing.{Write, refuse}
-use Rattle.wire.specs.Message.{fieldsOf, typeOf, hasBadField}
+use Rattle.wire.specs.Message.{typeOf, indexIn, hasBadField}
 use Rattle.wire.specs.declared.Message.{Message}
 use Rattle.book.specs.State.{view, symbolIn}
 use Rattle.book.specs.Registering.{toldOf}
@@ -58,11 +58,8 @@ lineOf s m plain sequence second out =
     lineBy (hasNoLine (typeOf m)) (hasBadField m) (eqb (s .answer) 0) (ltb lastSecond second) (rendered (columnsOf s m plain sequence second)) out
 
 -- what a book tells of a message's symbol
-abbrev pub indexOf : Message → ℕ
-indexOf m = fieldsOf m .index
-
 abbrev pub told : Book → Message → Registered
-told b m = toldOf (symbolIn (indexOf m) (view b))
+told b m = toldOf (symbolIn (indexIn m) (view b))
 
 -- 3, 4, 5 and 14 hang on no name and no scale: what is refused so is refused of any book
 unfoldable pub Refuses : Write → List ℕ → Write → Type 0

@@ -14,7 +14,7 @@ ghost use Prim.Native.Nat.{_≤_};
 ghost use lib.ListN.{length, take, drop};
 ghost use Rattle.book.specs.State.{Wf};
 ghost use Rattle.page.specs.Held.{held, room};
-ghost use Rattle.page.specs.Printing.{printed, hasNoLine, laid, lineOf, Refuses, indexOf, told};
+ghost use Rattle.page.specs.Printing.{printed, hasNoLine, laid, lineOf, Refuses, told};
 
 // The last second of a day.
 const LAST_SECOND: u32 = 86399;
@@ -32,7 +32,7 @@ pub fn line(
     ensures prints { λ r. ⌜ (Wf book → printed r (now (out .exit)) ≡ lineOf (told book m) m plain sequence second (now (out .entry))) ⌝ }
     ensures refuses { λ r. ⌜ Refuses (lineOf (told book m) m plain sequence second (now (out .entry))) (now (out .entry)) (printed r (now (out .exit))) ⌝ }
 {
-    let s = book.symbol(index_of(m));
+    let s = book.symbol(wire::index_of(m));
     line_told(s, m, plain, sequence, second, out)
 }
 
@@ -94,26 +94,5 @@ fn copy(out: &mut [u8], bytes: [u8; ROOM], n: usize)
     while i < n {
         out[i] = bytes[i];
         i += 1;
-    }
-}
-
-// The symbol index of a message.
-pub(crate) fn index_of(m: Message) -> u32
-    ensures { λ r. ⌜ r ≡ indexOf m ⌝ }
-{
-    match m {
-        Message::Add { head, .. } => head.index,
-        Message::Modify { head, .. } => head.index,
-        Message::Delete { head, .. } => head.index,
-        Message::Execute { head, .. } => head.index,
-        Message::Replace { head, .. } => head.index,
-        Message::Imbalance { head, .. } => head.index,
-        Message::NonDisplayed { head, .. } => head.index,
-        Message::Cross { head, .. } => head.index,
-        Message::TradeCancel { head, .. } => head.index,
-        Message::CrossCorrection { head, .. } => head.index,
-        Message::Retail { head, .. } => head.index,
-        Message::Clear { head, .. } => head.index,
-        Message::Status { head, .. } => head.index,
     }
 }

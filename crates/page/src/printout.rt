@@ -3,7 +3,6 @@ use crate::Printed;
 use crate::lines::line_of;
 use crate::printing::emit;
 use crate::printing::has_no_line;
-use crate::printing::index_of;
 use crate::text::Line;
 use crate::text::blank;
 use crate::text::number_column;
@@ -45,7 +44,7 @@ pub fn passed_text(
         return emit(blank(), out);
     }
     let plain = d.plain;
-    let s = book.symbol(index_of(m));
+    let s = book.symbol(wire::index_of(m));
     emit(
         line_of(s, m, plain, (place % 4294967296) as u32, second),
         out,

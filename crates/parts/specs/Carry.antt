@@ -4,7 +4,7 @@ use mathlib.Core.List.{List, _++_}
 use mathlib.Core.Bool.{Bool, true, false}
 use lib.ListN.{length, take, drop}
 use lib.Dec.{ltb}
-use Rattle.wire.specs.Bytes.{part}
+use lib.Seq.{slice}
 
 -- what a carry answers, and what it leaves in the buffer
 pub record Carry : Type 0 where
@@ -18,12 +18,12 @@ carried n s = record { count = n; buffer = s }
 unfoldable pub carryBy : Bool → Bool → List ℕ → ℕ → ℕ → Carry
 carryBy true beyond s from to = carried 0 s
 carryBy false true s from to = carried 0 s
-carryBy false false s from to = carried (to - from) (part s from to ++ drop (to - from) s)
+carryBy false false s from to = carried (to - from) (slice from to s ++ drop (to - from) s)
 
 -- the bytes from `from` up to `to` at the front, and those behind them as they were
 unfoldable pub carryOf : List ℕ → ℕ → ℕ → Carry
 carryOf s from to = carryBy (ltb to from) (ltb (length s) to) s from to
 
 -- the bytes that open the next part
-abbrev pub opening : Carry → List ℕ
-opening c = take (c .count) (c .buffer)
+abbrev pub carriedOver : Carry → List ℕ
+carriedOver c = take (c .count) (c .buffer)

@@ -5,19 +5,19 @@ use Prim.Native.Nat.{ℕ, zero, suc, _+_, _-_, _<_}
 use native.Mathlib.Nat.{sub-zero, zero-sub, suc-sub-suc, zero-add}
 use native.Mathlib.Omega.{arith}
 use lib.ListN.{length, drop, set, getD, replicate}
-use lib.Seq.{paste, paste-suc, take-length, getD-drop, getD-take}
-use Rattle.wire.specs.Bytes.{part, padded, plainRoom}
+use lib.Seq.{slice, paste, paste-suc, take-length, getD-drop, getD-take}
+use Rattle.wire.specs.Bytes.{paddedPlain, plainRoom}
 
 drop-replicate : (n m : ℕ) → drop {A = ℕ} n (replicate m 0) ≡ replicate (m - n) 0
 drop-replicate zero m = sym (ap {B = List ℕ} (λ (k : ℕ). replicate k 0) (sub-zero m))
 drop-replicate (suc n) zero = sym (ap {B = List ℕ} (λ (k : ℕ). replicate k 0) (zero-sub (suc n)))
 drop-replicate (suc n) (suc m) = drop-replicate n m ∙ sym (ap {B = List ℕ} (λ (k : ℕ). replicate k 0) (suc-sub-suc m n))
 
-pub pasted-is-padded : (d : List ℕ) (n : ℕ) → length d ≡ n → paste (replicate plainRoom 0) 0 d n ≡ padded d
+pub pasted-is-padded : (d : List ℕ) (n : ℕ) → length d ≡ n → paste (replicate plainRoom 0) 0 d n ≡ paddedPlain d
 pasted-is-padded d n e = rw (← e, take-length, zero-add, drop-replicate)
 
-pub part-at : (s : List ℕ) (a e i : ℕ) → a + i < e → getD (part s a e) i 0 ≡ getD s (a + i) 0
-part-at s a e i h = rw (getD-drop, getD-take)
+pub slice-at : (s : List ℕ) (a e i : ℕ) → a + i < e → getD (slice a e s) i 0 ≡ getD s (a + i) 0
+slice-at s a e i h = rw (getD-drop, getD-take)
 
 pub paste-next : (d s : List ℕ) (j : ℕ) → j < length d → j < length s → set (paste d 0 s j) j (getD s j 0) ≡ paste d 0 s (suc j)
 paste-next d s j hd hs =

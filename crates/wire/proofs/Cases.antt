@@ -7,12 +7,13 @@ use native.Mathlib.Omega.{arith}
 use lib.ListN.{length, drop}
 use lib.Dec.{ltb}
 use borrow.Author.Tests.{lt-ltb, le-ltb, eq-eqb, ne-eqb, ltb-false}
+use lib.Seq.{slice}
 use Rattle.wire.specs.declared.table.Layout.{Layout}
 use Rattle.wire.specs.declared.table.Shape.{Shape}
 use Rattle.wire.specs.declared.fields.Fault.{Fault}
 use Rattle.wire.specs.declared.Message.{Message}
 use Rattle.wire.specs.Outcome.{Outcome, done, refused}
-use Rattle.wire.specs.Bytes.{padded, part}
+use Rattle.wire.specs.Bytes.{paddedPlain}
 use Rattle.wire.specs.Table.{shapeOf}
 use Rattle.wire.specs.Fields.{fieldsAt, faultOf}
 use Rattle.wire.specs.Message.{messageOf, fieldsOf, typeOf}
@@ -87,7 +88,7 @@ module _ (s : List ℕ) where
   read-bad-field l n e = ap (λ (f : Fault). readBy f s l) e
 
   pub read-good : (l : Layout) → faultOf l (fieldsAt s l) ≡ Fault.Nothing →
-      readBody s l ≡ record { outcome = done (messageOf (l .kind) (fieldsAt s l)); plain = padded (part s (l .plain) (l .pad)) }
+      readBody s l ≡ record { outcome = done (messageOf (l .kind) (fieldsAt s l)); plain = paddedPlain (slice (l .plain) (l .pad) s) }
   unfolding readBody readBy
   read-good l e = ap (λ (f : Fault). readBy f s l) e
 

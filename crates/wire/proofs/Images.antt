@@ -4,17 +4,17 @@ use mathlib.Core.List.{List, [], _++_, append-assoc}
 use Prim.Native.Nat.{ℕ, _+_, _-_, _≤_}
 use native.Mathlib.Omega.{arith}
 use lib.ListN.{length, take, getD, length-append}
-use lib.Seq.{length-take-le, length-slice, take-at}
+use lib.Seq.{slice, length-take-le, length-slice, take-at}
 use Rattle.wire.specs.declared.table.Layout.{Layout}
 use Rattle.wire.specs.declared.fields.Fields.{Fields}
-use Rattle.wire.specs.Bytes.{digits, valueAt, padded, part, plainRoom, bytesOf, valuesAt}
+use Rattle.wire.specs.Bytes.{littleEndian, valueAt, paddedPlain, plainRoom, bytesOf, valuesAt}
 use Rattle.wire.specs.Fields.{Sane, fieldsAt, endsOf, valuesOf}
 use Rattle.wire.specs.Reading.{msgSize, msgType}
 use Rattle.wire.specs.Writing.{imageOf}
 use Rattle.wire.specs.RoundTrip.{Bytes}
-use Rattle.wire.proofs.Numbers.{length-digits, digits-of-part}
+use Rattle.wire.proofs.Numbers.{length-littleEndian, littleEndian-of-slice}
 use Rattle.wire.proofs.Laying.{ends-rise}
-use Rattle.wire.proofs.Rows.{Fitting, part-between, values-of-bytes, bytes-of-values, parts-join, length-of-bytes}
+use Rattle.wire.proofs.Rows.{Fitting, slice-between, values-of-bytes, bytes-of-values, slices-join, length-of-bytes}
 
 -- ---- the bytes of a message with anything behind them
 module _ (l : Layout) (sane : Sane l) (type : ℕ) (f : Fields) (plain rest : List ℕ) (long : length plain ≡ plainRoom) where
@@ -25,7 +25,7 @@ module _ (l : Layout) (sane : Sane l) (type : ℕ) (f : Fields) (plain rest : Li
   array = take (l .pad - l .plain) plain
 
   abbrev last : List ℕ
-  last = digits (l .size - l .pad) 0
+  last = littleEndian (l .size - l .pad) 0
 
   abbrev pub stream : List ℕ
   stream = imageOf l type f plain ++ rest
@@ -53,11 +53,11 @@ module _ (l : Layout) (sane : Sane l) (type : ℕ) (f : Fields) (plain rest : Li
         length-append last rest,
         length-numbers,
         length-array,
-        length-digits (l .size - l .pad) 0,
+        length-littleEndian (l .size - l .pad) 0,
       )
 
-  pub image-array : part stream (l .plain) (l .pad) ≡ array
-  image-array = rw in-three (part-between numbers array (last ++ rest) (l .plain) (l .pad) length-numbers (omega arith) length-array)
+  pub image-array : slice (l .plain) (l .pad) stream ≡ array
+  image-array = rw in-three (slice-between numbers array (last ++ rest) (l .plain) (l .pad) length-numbers (omega arith) length-array)
 
   module _ (fit : Fitting 0 (endsOf l) (valuesOf (l .size) type f)) where
     nth : (i : ℕ) → getD (valuesAt 0 (endsOf l) stream) i 0 ≡ getD (valuesOf (l .size) type f) i 0
@@ -91,16 +91,16 @@ module _ (l : Layout) (sane : Sane l) (type : ℕ) (f : Fields) (plain rest : Li
 -- ---- the fields that were read from s, written again
 module _ (s : List ℕ) (l : Layout) (bytes : Bytes s) (sane : Sane l) (size : msgSize s ≡ l .size) (there : l .size ≤ length s)
     (gap-zero : valueAt s (l .gap) (l .plain) ≡ 0) (pad-zero : valueAt s (l .pad) (l .size) ≡ 0) where
-  pub image-of-read : imageOf l (msgType s) (fieldsAt s l) (padded (part s (l .plain) (l .pad))) ≡ take (l .size) s
+  pub image-of-read : imageOf l (msgType s) (fieldsAt s l) (paddedPlain (slice (l .plain) (l .pad) s)) ≡ take (l .size) s
   unfolding imageOf
   image-of-read =
       let same : valuesOf (l .size) (msgType s) (fieldsAt s l) ≡ valuesAt 0 (endsOf l) s = rw (← size, ← gap-zero) in
-      let b : bytesOf 0 (endsOf l) (valuesOf (l .size) (msgType s) (fieldsAt s l)) ≡ part s 0 (l .plain) =
+      let b : bytesOf 0 (endsOf l) (valuesOf (l .size) (msgType s) (fieldsAt s l)) ≡ slice 0 (l .plain) s =
       ap (bytesOf 0 (endsOf l)) same ∙ bytes-of-values s (endsOf l) 0 bytes (omega arith) (ends-rise l sane (length s) there) in
-      let d : take (l .pad - l .plain) (padded (part s (l .plain) (l .pad))) ≡ part s (l .plain) (l .pad) =
-      take-at (part s (l .plain) (l .pad)) _ (l .pad - l .plain) (length-slice (l .plain) (l .pad) s (omega arith)) in
-      let z : digits (l .size - l .pad) 0 ≡ part s (l .pad) (l .size) =
-      ap (digits (l .size - l .pad)) (sym pad-zero) ∙ digits-of-part s (l .pad) (l .size) bytes there in
+      let d : take (l .pad - l .plain) (paddedPlain (slice (l .plain) (l .pad) s)) ≡ slice (l .plain) (l .pad) s =
+      take-at (slice (l .plain) (l .pad) s) _ (l .pad - l .plain) (length-slice (l .plain) (l .pad) s (omega arith)) in
+      let z : littleEndian (l .size - l .pad) 0 ≡ slice (l .pad) (l .size) s =
+      ap (littleEndian (l .size - l .pad)) (sym pad-zero) ∙ littleEndian-of-slice s (l .pad) (l .size) bytes there in
       (λ i. b i ++ d i ++ z i)
-      ∙ ap (λ (x : List ℕ). x ++ part s (l .pad) (l .size)) (parts-join s 0 (l .plain) (l .pad) (omega arith) (omega arith) (omega arith))
-      ∙ parts-join s 0 (l .pad) (l .size) (omega arith) (omega arith) there
+      ∙ ap (λ (x : List ℕ). x ++ slice (l .pad) (l .size) s) (slices-join s 0 (l .plain) (l .pad) (omega arith) (omega arith) (omega arith))
+      ∙ slices-join s 0 (l .pad) (l .size) (omega arith) (omega arith) there

@@ -6,25 +6,25 @@ use native.Mathlib.Numerals.{add-one}
 use native.Mathlib.Omega.{arith}
 use lib.ListN.{length, take, drop, getD, length-append, drop-of-length-le}
 use lib.Seq.{take-at, drop-at, drop-drop, drop-cons, length-take-le}
-use Rattle.wire.specs.Bytes.{digits, splice, plainRoom, laid, Rising, bytesOf}
+use Rattle.wire.specs.Bytes.{littleEndian, splice, plainRoom, stored, Rising, bytesOf}
 use Rattle.wire.specs.declared.table.Layout.{Layout}
 use Rattle.wire.specs.declared.fields.Fields.{Fields}
 use Rattle.wire.specs.Fields.{Sane, endsOf, valuesOf}
 use Rattle.wire.specs.Writing.{imageOf}
-use Rattle.wire.proofs.Numbers.{length-digits}
+use Rattle.wire.proofs.Numbers.{length-littleEndian}
 
 -- ---- one turn of the writer's loop
 
-pub laid-next : (a i : ℕ) (ends v out : List ℕ) → i < length ends → i < length v →
-    laid a (drop i ends) (drop i v) out ≡ laid (getD ends i 0) (drop (i + 1) ends) (drop (i + 1) v) (splice out a (getD ends i 0) (digits (getD ends i 0 - a) (getD v i 0)))
-laid-next a i ends v out h k = rw (add-one i, drop-cons ends i 0 h, drop-cons v i 0 k)
+pub stored-next : (a i : ℕ) (ends v out : List ℕ) → i < length ends → i < length v →
+    stored a (drop i ends) (drop i v) out ≡ stored (getD ends i 0) (drop (i + 1) ends) (drop (i + 1) v) (splice out a (getD ends i 0) (littleEndian (getD ends i 0 - a) (getD v i 0)))
+stored-next a i ends v out h k = rw (add-one i, drop-cons ends i 0 h, drop-cons v i 0 k)
 
 pub rising-next : (a i n : ℕ) (ends : List ℕ) → i < length ends → Rising a (drop i ends) n →
     (a ≤ getD ends i 0) × (getD ends i 0 ≤ n) × Rising (getD ends i 0) (drop (i + 1) ends) n
 rising-next a i n ends h r = rw (add-one i) (rw (drop-cons ends i 0 h) at r)
 
-pub laid-over : (a i : ℕ) (ends v out : List ℕ) → length ends ≤ i → laid a (drop i ends) (drop i v) out ≡ out
-laid-over a i ends v out h = rw (drop-of-length-le ends h)
+pub stored-over : (a i : ℕ) (ends v out : List ℕ) → length ends ≤ i → stored a (drop i ends) (drop i v) out ≡ out
+stored-over a i ends v out h = rw (drop-of-length-le ends h)
 
 -- ---- the first a places of cur are pre, and the others are as they were
 pub record Filled (out : List ℕ) (a : ℕ) (pre cur : List ℕ) : Type 0 where
@@ -54,26 +54,26 @@ endOf a [] = a
 endOf a (e ∷ es) = endOf e es
 
 filled-all : (out : List ℕ) (ends v : List ℕ) (n a : ℕ) (pre cur : List ℕ) → length ends ≡ length v → Rising a ends n → Filled out a pre cur →
-    Filled out (endOf a ends) (pre ++ bytesOf a ends v) (laid a ends v cur)
+    Filled out (endOf a ends) (pre ++ bytesOf a ends v) (stored a ends v cur)
 filled-all out [] v n a pre cur e r f = rw append-nil f
 filled-all out (x ∷ ends) [] n a pre cur e r f = absurd (omega arith)
 filled-all out (x ∷ ends) (y ∷ v) n a pre cur e r f =
-    rw (← append-assoc pre (digits (x - a) y) (bytesOf x ends v))
-    (filled-all out ends v n x (pre ++ digits (x - a) y) (splice cur a x (digits (x - a) y)) (omega arith) (r .2)
-    (filled-next out pre cur (digits (x - a) y) a x (r .0) (length-digits (x - a) y) f))
+    rw (← append-assoc pre (littleEndian (x - a) y) (bytesOf x ends v))
+    (filled-all out ends v n x (pre ++ littleEndian (x - a) y) (splice cur a x (littleEndian (x - a) y)) (omega arith) (r .2)
+    (filled-next out pre cur (littleEndian (x - a) y) a x (r .0) (length-littleEndian (x - a) y) f))
 
 -- ---- the numbers, the byte array and the reserved byte at the end, stored in turn, are the message
 module _ (l : Layout) (s : Sane l) where
   pub ends-rise : (n : ℕ) → l .size ≤ n → Rising 0 (endsOf l) n
   ends-rise n h = omega arith
 
-  pub laid-is-image : (out plain : List ℕ) (type : ℕ) (f : Fields) → l .size ≤ length out → length plain ≡ plainRoom →
-      splice (splice (laid 0 (endsOf l) (valuesOf (l .size) type f) out) (l .plain) (l .pad) (take (l .pad - l .plain) plain)) (l .pad) (l .size) (digits (l .size - l .pad) 0)
+  pub stored-is-image : (out plain : List ℕ) (type : ℕ) (f : Fields) → l .size ≤ length out → length plain ≡ plainRoom →
+      splice (splice (stored 0 (endsOf l) (valuesOf (l .size) type f) out) (l .plain) (l .pad) (take (l .pad - l .plain) plain)) (l .pad) (l .size) (littleEndian (l .size - l .pad) 0)
       ≡ imageOf l type f plain ++ drop (l .size) out
   unfolding imageOf
-  laid-is-image out plain type f h k =
+  stored-is-image out plain type f h k =
       let v = valuesOf (l .size) type f in
       let d = take (l .pad - l .plain) plain in
       let numbers = filled-all out (endsOf l) v (length out) 0 [] out refl (ends-rise (length out) h) (filled-none out) in
-      let with-array = filled-next out (bytesOf 0 (endsOf l) v) (laid 0 (endsOf l) v out) d (l .plain) (l .pad) (omega arith) (length-take-le (l .pad - l .plain) plain (omega arith)) numbers in
-      filled-next out (bytesOf 0 (endsOf l) v ++ d) (splice (laid 0 (endsOf l) v out) (l .plain) (l .pad) d) (digits (l .size - l .pad) 0) (l .pad) (l .size) (omega arith) (length-digits (l .size - l .pad) 0) with-array .is
+      let with-array = filled-next out (bytesOf 0 (endsOf l) v) (stored 0 (endsOf l) v out) d (l .plain) (l .pad) (omega arith) (length-take-le (l .pad - l .plain) plain (omega arith)) numbers in
+      filled-next out (bytesOf 0 (endsOf l) v ++ d) (splice (stored 0 (endsOf l) v out) (l .plain) (l .pad) d) (littleEndian (l .size - l .pad) 0) (l .pad) (l .size) (omega arith) (length-littleEndian (l .size - l .pad) 0) with-array .is

@@ -8,3 +8,4 @@ pub mod Images
 pub mod RoundTrip
 pub mod OneOutcome
 pub mod Types
+pub mod Answers

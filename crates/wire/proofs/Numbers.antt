@@ -6,8 +6,8 @@ use native.Mathlib.Nat.{pow-suc, pow-le-pow-right}
 use native.Mathlib.Numerals.{add-one}
 use native.Mathlib.Omega.{arith}
 use lib.ListN.{length, take, drop, set, getD, take-append-drop}
-use lib.Seq.{slice-cons, slice-empty, length-slice, take-suc-set, append-snoc}
-use Rattle.wire.specs.Bytes.{value, digits, valueAt, part}
+use lib.Seq.{slice, slice-cons, slice-empty, length-slice, take-suc-set, append-snoc}
+use Rattle.wire.specs.Bytes.{value, littleEndian, valueAt}
 use Rattle.wire.specs.RoundTrip.{Bytes}
 
 -- ---- reading from the last byte to the first
@@ -36,43 +36,43 @@ below-width w {r} {k} h l = let m : 256 ^ k ≤ 256 ^ w = pow-le-pow-right {n = 
 
 -- ---- writing from the first byte to the last
 
-pub digits-next : (out rest : List ℕ) (i e x : ℕ) → i < length out → i < e →
-    take (i + 1) (set out i (x % 256)) ++ digits (e - (i + 1)) (x / 256) ++ rest ≡ take i out ++ digits (e - i) x ++ rest
-unfolding digits
-digits-next out rest i e x h k =
+pub littleEndian-next : (out rest : List ℕ) (i e x : ℕ) → i < length out → i < e →
+    take (i + 1) (set out i (x % 256)) ++ littleEndian (e - (i + 1)) (x / 256) ++ rest ≡ take i out ++ littleEndian (e - i) x ++ rest
+unfolding littleEndian
+littleEndian-next out rest i e x h k =
     let q : e - i ≡ suc (e - (i + 1)) = omega arith in
     rw q (rw (add-one i) (ap (λ (l : List ℕ). l ++ rest)
-    (ap (λ (l : List ℕ). l ++ digits (e - suc i) (x / 256)) (take-suc-set out i (x % 256) h)
-    ∙ append-snoc (take i out) (x % 256) (digits (e - suc i) (x / 256)))))
+    (ap (λ (l : List ℕ). l ++ littleEndian (e - suc i) (x / 256)) (take-suc-set out i (x % 256) h)
+    ∙ append-snoc (take i out) (x % 256) (littleEndian (e - suc i) (x / 256)))))
 
-pub digits-over : (out out₀ : List ℕ) (i e x : ℕ) → i ≡ e → drop e out ≡ drop e out₀ → out ≡ take i out ++ digits (e - i) x ++ drop e out₀
-unfolding digits
-digits-over out out₀ i e x p q =
+pub littleEndian-over : (out out₀ : List ℕ) (i e x : ℕ) → i ≡ e → drop e out ≡ drop e out₀ → out ≡ take i out ++ littleEndian (e - i) x ++ drop e out₀
+unfolding littleEndian
+littleEndian-over out out₀ i e x p q =
     let z : e - e ≡ 0 = omega arith in
     rw (p, z, append-nil, ← q) (sym (take-append-drop e out))
 
-pub length-digits : (w v : ℕ) → length (digits w v) ≡ w
-unfolding digits
-length-digits zero v = refl
-length-digits (suc w) v = ap suc (length-digits w (v / 256))
+pub length-littleEndian : (w v : ℕ) → length (littleEndian w v) ≡ w
+unfolding littleEndian
+length-littleEndian zero v = refl
+length-littleEndian (suc w) v = ap suc (length-littleEndian w (v / 256))
 
 -- ---- there and back
 
-pub value-of-digits : (w v : ℕ) → v < 256 ^ w → value (digits w v) ≡ v
-unfolding value digits
-value-of-digits zero v h = omega arith
-value-of-digits (suc w) v h =
+pub value-of-littleEndian : (w v : ℕ) → v < 256 ^ w → value (littleEndian w v) ≡ v
+unfolding value littleEndian
+value-of-littleEndian zero v h = omega arith
+value-of-littleEndian (suc w) v h =
     let h′ : v < 256 ^ w * 256 = rw pow-suc at h in
-    rw (value-of-digits w (v / 256) (omega arith)) (omega arith)
+    rw (value-of-littleEndian w (v / 256) (omega arith)) (omega arith)
 
-digits-of-value : (bs : List ℕ) → Bytes bs → digits (length bs) (value bs) ≡ bs
-unfolding value digits
-digits-of-value [] h = refl
-digits-of-value (b ∷ bs) h =
+littleEndian-of-value : (bs : List ℕ) → Bytes bs → littleEndian (length bs) (value bs) ≡ bs
+unfolding value littleEndian
+littleEndian-of-value [] h = refl
+littleEndian-of-value (b ∷ bs) h =
     let hb : b < 256 = h 0 in
     let p : (b + 256 * value bs) % 256 ≡ b = omega arith in
     let q : (b + 256 * value bs) / 256 ≡ value bs = omega arith in
-    rw (p, q, digits-of-value bs (λ i. h (suc i)))
+    rw (p, q, littleEndian-of-value bs (λ i. h (suc i)))
 
 bytes-take : (n : ℕ) (s : List ℕ) → Bytes s → Bytes (take n s)
 bytes-take zero s h i = omega arith
@@ -85,6 +85,6 @@ bytes-drop zero s h i = h i
 bytes-drop (suc n) [] h i = omega arith
 bytes-drop (suc n) (x ∷ s) h i = bytes-drop n s (λ j. h (suc j)) i
 
-pub digits-of-part : (s : List ℕ) (a e : ℕ) → Bytes s → e ≤ length s → digits (e - a) (valueAt s a e) ≡ part s a e
-digits-of-part s a e h k =
-    ap (λ (w : ℕ). digits w (valueAt s a e)) (sym (length-slice a e s k)) ∙ digits-of-value (part s a e) (bytes-drop a (take e s) (bytes-take e s h))
+pub littleEndian-of-slice : (s : List ℕ) (a e : ℕ) → Bytes s → e ≤ length s → littleEndian (e - a) (valueAt s a e) ≡ slice a e s
+littleEndian-of-slice s a e h k =
+    ap (λ (w : ℕ). littleEndian w (valueAt s a e)) (sym (length-slice a e s k)) ∙ littleEndian-of-value (slice a e s) (bytes-drop a (take e s) (bytes-take e s h))

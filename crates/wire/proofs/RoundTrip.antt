@@ -7,12 +7,13 @@ use native.Mathlib.Omega.{arith}
 use lib.ListN.{length, take, drop}
 use lib.Dec.{eqb, ltb}
 use borrow.Author.Tests.{eqb-true}
+use lib.Seq.{slice}
 use Rattle.wire.specs.declared.table.Layout.{Layout}
 use Rattle.wire.specs.declared.table.Shape.{Shape}
 use Rattle.wire.specs.declared.fields.Fault.{Fault}
 use Rattle.wire.specs.declared.Message.{Message}
 use Rattle.wire.specs.Outcome.{Outcome, done, refused}
-use Rattle.wire.specs.Bytes.{padded, part, plainRoom}
+use Rattle.wire.specs.Bytes.{paddedPlain, plainRoom}
 use Rattle.wire.specs.Table.{shapeOf, table}
 use Rattle.wire.specs.Fields.{fieldsAt, faultOf, endsOf, valuesOf}
 use Rattle.wire.specs.Message.{messageOf, fieldsOf, typeOf}
@@ -71,7 +72,7 @@ keeps = by-rows Keeps kept-row
 
 module _ (m : Message) (plain out : List ℕ) (long : length plain ≡ plainRoom) (w : InRange (fieldsOf m)) where
   module _ (l : Layout) (known : shapeOf (typeOf m) ≡ Shape.Known l) (good : faultOf l (fieldsOf m) ≡ Fault.Nothing) where
-    read-image : (rest : List ℕ) → readOf (imageOf l (typeOf m) (fieldsOf m) plain ++ rest) ≡ record { outcome = done m; plain = padded (take (l .pad - l .plain) plain) }
+    read-image : (rest : List ℕ) → readOf (imageOf l (typeOf m) (fieldsOf m) plain ++ rest) ≡ record { outcome = done m; plain = paddedPlain (take (l .pad - l .plain) plain) }
     read-image rest =
         let f = fieldsOf m in
         let sane = layout-sane (typeOf m) l known in
@@ -84,7 +85,7 @@ module _ (m : Message) (plain out : List ℕ) (long : length plain ≡ plainRoom
         read-reached s (msgSize s) (reach-size s (omega arith) (omega arith) (omega arith))
         ∙ read-size s (msgSize s) l (ap shapeOf type ∙ known) size
         ∙ read-good s l (ap (faultOf l) fields ∙ good)
-        ∙ (λ i. record { outcome = done ((ap (messageOf (l .kind)) fields ∙ u .again) i); plain = padded (image-array l sane (typeOf m) f plain rest long i) })
+        ∙ (λ i. record { outcome = done ((ap (messageOf (l .kind)) fields ∙ u .again) i); plain = paddedPlain (image-array l sane (typeOf m) f plain rest long i) })
 
   -- by the cases of writing: only the last one is done
   by-room : (n : ℕ) (l : Layout) → shapeOf (typeOf m) ≡ Shape.Known l → faultOf l (fieldsOf m) ≡ Fault.Nothing → (b : Bool) →
@@ -92,7 +93,7 @@ module _ (m : Message) (plain out : List ℕ) (long : length plain ≡ plainRoom
   unfolding writeSized
   by-room n l known good true e = let z : _≡_ {A = ℕ} 0 1 = cc in absurd (omega arith)
   by-room n l known good false e =
-      read-image l known good (drop (l .size) out) ∙ ap (λ (x : Shape). record { outcome = done m; plain = padded (take (arrayWidth x) plain) }) (sym known)
+      read-image l known good (drop (l .size) out) ∙ ap (λ (x : Shape). record { outcome = done m; plain = paddedPlain (take (arrayWidth x) plain) }) (sym known)
 
   by-fault : (n : ℕ) (l : Layout) → shapeOf (typeOf m) ≡ Shape.Known l → (x : Fault) → faultOf l (fieldsOf m) ≡ x →
       writeBy x l m plain out .outcome ≡ done n → readOf (writeBy x l m plain out .out) ≡ sameMessage m plain
@@ -124,7 +125,7 @@ module _ (s : List ℕ) (bytes : Bytes s) (m : Message) (out : List ℕ) where
         let is : messageOf (l .kind) (fieldsAt s l) ≡ m = cc in
         let type : typeOf m ≡ msgType s = ap typeOf (sym is) ∙ kept .type s in
         let fields : fieldsOf m ≡ fieldsAt s l = ap fieldsOf (sym is) ∙ kept .fields s in
-        let plain = padded (part s (l .plain) (l .pad)) in
+        let plain = paddedPlain (slice (l .plain) (l .pad) s) in
         let image = image-of-read s l bytes (layout-sane (msgType s) l known) size (omega arith) (zero .0) (zero .1) in
         write-good m plain out l (ap shapeOf type ∙ known) (ap (faultOf l) fields ∙ q) (omega arith)
         ∙ (λ i. record { outcome = done (sym size i); out = ((λ j. imageOf l (type j) (fields j) plain) ∙ image) i ++ drop (l .size) out })

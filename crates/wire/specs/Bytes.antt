@@ -10,16 +10,13 @@ value [] = 0
 value (b ∷ bs) = b + 256 * value bs
 
 -- a number as w bytes
-unfoldable pub digits : ℕ → ℕ → List ℕ
-digits zero v = []
-digits (suc w) v = (v % 256) ∷ digits w (v / 256)
+unfoldable pub littleEndian : ℕ → ℕ → List ℕ
+littleEndian zero v = []
+littleEndian (suc w) v = (v % 256) ∷ littleEndian w (v / 256)
 
--- the bytes from a up to e, and their number
-abbrev pub part : List ℕ → ℕ → ℕ → List ℕ
-part s a e = slice a e s
-
+-- the number that stands from a up to e
 abbrev pub valueAt : List ℕ → ℕ → ℕ → ℕ
-valueAt s a e = value (part s a e)
+valueAt s a e = value (slice a e s)
 
 -- s with the bytes d in the place of those from a up to e
 abbrev pub splice : List ℕ → ℕ → ℕ → List ℕ → List ℕ
@@ -29,8 +26,8 @@ splice s a e d = take a s ++ d ++ drop e s
 abbrev pub plainRoom : ℕ
 plainRoom = 53
 
-abbrev pub padded : List ℕ → List ℕ
-padded d = d ++ replicate (plainRoom - length d) 0
+abbrev pub paddedPlain : List ℕ → List ℕ
+paddedPlain d = d ++ replicate (plainRoom - length d) 0
 
 -- ---- fields one after the other: each starts where the one before it ended
 
@@ -43,7 +40,7 @@ Rising a (e ∷ es) n = (a ≤ e) × (e ≤ n) × Rising e es n
 abbrev pub bytesOf : ℕ → List ℕ → List ℕ → List ℕ
 bytesOf a [] v = []
 bytesOf a (e ∷ es) [] = []
-bytesOf a (e ∷ es) (x ∷ v) = digits (e - a) x ++ bytesOf e es v
+bytesOf a (e ∷ es) (x ∷ v) = littleEndian (e - a) x ++ bytesOf e es v
 
 -- the numbers in s, from a on, each up to its end
 abbrev pub valuesAt : ℕ → List ℕ → List ℕ → List ℕ
@@ -51,7 +48,7 @@ valuesAt a [] s = []
 valuesAt a (e ∷ es) s = valueAt s a e ∷ valuesAt e es s
 
 -- the numbers v stored in out, from a on, each up to its end
-abbrev pub laid : ℕ → List ℕ → List ℕ → List ℕ → List ℕ
-laid a [] v out = out
-laid a (e ∷ es) [] out = out
-laid a (e ∷ es) (x ∷ v) out = laid e es v (splice out a e (digits (e - a) x))
+abbrev pub stored : ℕ → List ℕ → List ℕ → List ℕ → List ℕ
+stored a [] v out = out
+stored a (e ∷ es) [] out = out
+stored a (e ∷ es) (x ∷ v) out = stored e es v (splice out a e (littleEndian (e - a) x))

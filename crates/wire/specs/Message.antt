@@ -78,6 +78,10 @@ typeOf (Retail h indicator) = 114
 typeOf (Clear h seconds) = 32
 typeOf (Status h seconds) = 34
 
+-- its symbol index
+abbrev pub indexIn : Message → ℕ
+indexIn m = fieldsOf m .index
+
 -- has it a field that document 01 calls bad?
 abbrev pub isFault : Fault → Bool
 isFault Fault.Nothing = false

@@ -4,8 +4,9 @@ use mathlib.Core.List.{List}
 use mathlib.Core.Bool.{Bool, true, false}
 use lib.ListN.{length, replicate}
 use lib.Dec.{eqb, ltb}
+use lib.Seq.{slice}
 use Rattle.wire.specs.Outcome.{Outcome, done, refused}
-use Rattle.wire.specs.Bytes.{valueAt, part, padded, plainRoom}
+use Rattle.wire.specs.Bytes.{valueAt, paddedPlain, plainRoom}
 use Rattle.wire.specs.Table.{shapeOf}
 use Rattle.wire.specs.Fields.{fieldsAt, faultOf}
 use Rattle.wire.specs.Message.{messageOf}
@@ -70,7 +71,7 @@ refusedRead a = record { answer = a; plain = replicate plainRoom 0 }
 -- the fields
 unfoldable pub readBy : Fault → List ℕ → Layout → Read
 readBy (Fault.At n) s l = refuse 4
-readBy Fault.Nothing s l = record { outcome = done (messageOf (l .kind) (fieldsAt s l)); plain = padded (part s (l .plain) (l .pad)) }
+readBy Fault.Nothing s l = record { outcome = done (messageOf (l .kind) (fieldsAt s l)); plain = paddedPlain (slice (l .plain) (l .pad) s) }
 
 unfoldable pub readBody : List ℕ → Layout → Read
 readBody s l = readBy (faultOf l (fieldsAt s l)) s l

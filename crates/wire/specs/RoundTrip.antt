@@ -4,7 +4,7 @@ use mathlib.Core.List.{List, _++_}
 use mathlib.Core.Path.{_≡_}
 use lib.ListN.{length, take, drop, getD}
 use Rattle.wire.specs.Outcome.{done}
-use Rattle.wire.specs.Bytes.{valueAt, padded}
+use Rattle.wire.specs.Bytes.{valueAt, paddedPlain}
 use Rattle.wire.specs.Table.{shapeOf}
 use Rattle.wire.specs.Message.{typeOf}
 use Rattle.wire.specs.Reading.{msgSize, msgType, Read, readOf}
@@ -38,7 +38,7 @@ arrayWidth (Shape.Known l) = l .pad - l .plain
 
 -- the same message: the bytes of its array beyond its type's width are no part of it
 abbrev pub sameMessage : Message → List ℕ → Read
-sameMessage m plain = record { outcome = done m; plain = padded (take (arrayWidth (shapeOf (typeOf m))) plain) }
+sameMessage m plain = record { outcome = done m; plain = paddedPlain (take (arrayWidth (shapeOf (typeOf m))) plain) }
 
 -- Reading what was written gives the same message.
 unfoldable pub ReadsBack : Message → List ℕ → Write → Type 0

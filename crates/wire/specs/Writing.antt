@@ -5,7 +5,7 @@ use mathlib.Core.Bool.{Bool, true, false}
 use lib.ListN.{length, take, drop}
 use lib.Dec.{ltb}
 use Rattle.wire.specs.Outcome.{Outcome, done, refused}
-use Rattle.wire.specs.Bytes.{digits, bytesOf}
+use Rattle.wire.specs.Bytes.{littleEndian, bytesOf}
 use Rattle.wire.specs.Table.{shapeOf}
 use Rattle.wire.specs.Fields.{faultOf, endsOf, valuesOf}
 use Rattle.wire.specs.Message.{fieldsOf, typeOf}
@@ -41,7 +41,7 @@ refuse n out = record { outcome = refused n; out = out }
 
 -- the bytes of a message: its numbers, its byte array at the type's own width, and zero in the reserved byte at the end
 unfoldable pub imageOf : Layout → ℕ → Fields → List ℕ → List ℕ
-imageOf l type f plain = bytesOf 0 (endsOf l) (valuesOf (l .size) type f) ++ take (l .pad - l .plain) plain ++ digits (l .size - l .pad) 0
+imageOf l type f plain = bytesOf 0 (endsOf l) (valuesOf (l .size) type f) ++ take (l .pad - l .plain) plain ++ littleEndian (l .size - l .pad) 0
 
 -- is the buffer too short?
 unfoldable pub writeSized : Bool → Layout → Message → List ℕ → List ℕ → Write

@@ -3,7 +3,8 @@ use crate::PLAIN;
 ghost use mathlib.Core.Path.{_≡_};
 ghost use Prim.Native.Nat.{_+_, _-_, _^_, _≤_, _<_};
 ghost use lib.ListN.{length, take};
-ghost use Rattle.wire.specs.Bytes.{valueAt, digits, splice, part, padded, plainRoom, Rising, laid};
+ghost use lib.Seq.{slice};
+ghost use Rattle.wire.specs.Bytes.{valueAt, littleEndian, splice, paddedPlain, plainRoom, Rising, stored};
 
 fn wide(x: u8) -> u64
     ensures { λ r. ⌜ r ≡ x ⌝ }
@@ -50,7 +51,7 @@ pub(crate) fn get8(s: &[u8], a: usize, e: usize) -> u8
 // The bytes from a up to e, and zeros after them.
 pub(crate) fn plain_at(s: &[u8], a: usize, e: usize) -> [u8; PLAIN]
     requires { ⌜ (a ≤ e) × (e ≤ a + plainRoom) × (e ≤ length (now s)) ⌝ }
-    ensures { λ r. ⌜ r ≡ padded (part (now (s .entry)) a e) ⌝ }
+    ensures { λ r. ⌜ r ≡ paddedPlain (slice a e (now (s .entry))) ⌝ }
 {
     let n = e - a;
     let mut r = [0u8; PLAIN];
@@ -65,7 +66,7 @@ pub(crate) fn plain_at(s: &[u8], a: usize, e: usize) -> [u8; PLAIN]
 // Writes the number v over the bytes from a up to e.
 pub(crate) fn put_value(out: &mut [u8], a: usize, e: usize, v: u64)
     requires { ⌜ (a ≤ e) × (e ≤ length (now out)) ⌝ }
-    ensures { λ _. ⌜ now (out .exit) ≡ splice (now (out .entry)) a e (digits (e - a) v) ⌝ }
+    ensures { λ _. ⌜ now (out .exit) ≡ splice (now (out .entry)) a e (littleEndian (e - a) v) ⌝ }
 {
     let mut x = v;
     let mut i = a;
@@ -79,7 +80,7 @@ pub(crate) fn put_value(out: &mut [u8], a: usize, e: usize, v: u64)
 // Writes numbers one after the other: each starts where the one before it ended, the first at 0.
 pub(crate) fn put_values(out: &mut [u8], ends: [usize; 15], v: [u64; 15])
     requires { ⌜ Rising 0 ends (length (now out)) ⌝ }
-    ensures { λ _. ⌜ now (out .exit) ≡ laid 0 ends v (now (out .entry)) ⌝ }
+    ensures { λ _. ⌜ now (out .exit) ≡ stored 0 ends v (now (out .entry)) ⌝ }
 {
     let mut a = 0;
     let mut i = 0;

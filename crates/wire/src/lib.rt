@@ -12,6 +12,7 @@ mod writing;
 pub use extent::reach_at;
 pub use reading::decode;
 pub use typed::has_bad_field;
+pub use typed::index_of;
 pub use typed::type_of;
 pub use writing::encode;
 ghost use mathlib.Core.Path.{_≡_};

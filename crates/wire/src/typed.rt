@@ -9,7 +9,7 @@ use crate::table::Shape;
 use crate::table::shape_of;
 ghost use mathlib.Core.Path.{_≡_};
 ghost use Rattle.wire.specs.RoundTrip.{InRange};
-ghost use Rattle.wire.specs.Message.{messageOf, fieldsWith, fieldsOf, typeOf, hasBadField};
+ghost use Rattle.wire.specs.Message.{messageOf, fieldsWith, fieldsOf, typeOf, indexIn, hasBadField};
 
 // The message of a type with these fields.
 pub(crate) fn message_of(k: Kind, f: Fields) -> Message
@@ -208,6 +208,14 @@ pub fn type_of(m: Message) -> u16
         Message::Clear { .. } => 32,
         Message::Status { .. } => 34,
     }
+}
+
+// The symbol index of a message.
+pub fn index_of(m: Message) -> u32
+    ensures { λ r. ⌜ r ≡ indexIn m ⌝ }
+{
+    let f = fields_of(m);
+    f.index
 }
 
 // Whether a message has a bad field. One that was read has none; one that was made by hand may.

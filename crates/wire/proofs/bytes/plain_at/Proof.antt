@@ -4,15 +4,14 @@ use mathlib.Core.Path.{_≡_, _∙_, refl}
 use native.Mathlib.Omega.{arith}
 use native.Mathlib.Numerals.{add-one}
 use lib.ListN.{replicate}
-use lib.Seq.{paste, length-slice}
+use lib.Seq.{slice, paste, length-slice}
 use denote.Ref.{now}
-use Rattle.wire.specs.Bytes.{part}
-use Rattle.wire.proofs.ByteArrays.{part-at, pasted-is-padded, paste-next}
+use Rattle.wire.proofs.ByteArrays.{slice-at, pasted-is-padded, paste-next}
 use Rattle.wire.proofs.bytes.plain_at.Statement.{statement}
 use Rattle.wire.proofs.bytes.plain_at.Tie as tie
 
 abbrev Inv-loop : tie.InvT-loop
-Inv-loop s a e n r₀ i₀ r i = (i ≤ n) × (r ≡ paste (replicate 53 0) 0 (part s a e) i)
+Inv-loop s a e n r₀ i₀ r i = (i ≤ n) × (r ≡ paste (replicate 53 0) 0 (slice a e s) i)
 
 abbrev μ-loop : tie.MeasureT-loop
 μ-loop s a e n r₀ i₀ r i = n - i
@@ -45,8 +44,8 @@ loop-again c =
     let s = now (a .s) in
     let i = k .loop .i in (
       omega arith,
-      rw (add-one i, ← part-at s (a .a) (a .e) i (omega arith), k .loop .inv .1)
-          (paste-next (replicate 53 0) (part s (a .a) (a .e)) i (omega arith) (omega (arith, length-slice (a .a) (a .e) s (omega arith)))),
+      rw (add-one i, ← slice-at s (a .a) (a .e) i (omega arith), k .loop .inv .1)
+          (paste-next (replicate 53 0) (slice (a .a) (a .e) s) i (omega arith) (omega (arith, length-slice (a .a) (a .e) s (omega arith)))),
     )
 
 returns : tie.Need-returns Inv-loop μ-loop
@@ -54,7 +53,7 @@ returns c =
     let k = c .before in
     let a = k .before .args in
     let s = now (a .s) in
-    k .loop .inv .1 ∙ pasted-is-padded (part s (a .a) (a .e)) (k .loop .i) (omega (arith, length-slice (a .a) (a .e) s (omega arith)))
+    k .loop .inv .1 ∙ pasted-is-padded (slice (a .a) (a .e) s) (k .loop .i) (omega (arith, length-slice (a .a) (a .e) s (omega arith)))
 
 pub plain-at-spec : {M : Type 1} → statement M
 plain-at-spec =

@@ -1,4 +1,4 @@
--- After some turns the bytes passed, the digits still to come and what lies behind are the result (`digits-next`).
+-- After some turns the bytes passed, those still to come and what lies behind are the result (`littleEndian-next`).
 use Prim.Native.Nat.{_+_, _-_, _≤_, _%_}
 use mathlib.Core.Path.{_≡_, _∙_, refl}
 use mathlib.Core.List.{_++_}
@@ -7,14 +7,14 @@ use lib.ListN.{length, take, drop, length-set}
 use lib.Seq.{drop-set-lt}
 use borrow.Author.Needs.{needs}
 use denote.Ref.{now}
-use Rattle.wire.specs.Bytes.{splice, digits}
-use Rattle.wire.proofs.Numbers.{digits-next, digits-over}
+use Rattle.wire.specs.Bytes.{splice, littleEndian}
+use Rattle.wire.proofs.Numbers.{littleEndian-next, littleEndian-over}
 use Rattle.wire.proofs.bytes.put_value.Statement.{statement}
 use Rattle.wire.proofs.bytes.put_value.Tie as tie
 
 abbrev Inv-loop : tie.InvT-loop
 Inv-loop out₀ a e v x₀ i₀ out x i = (a ≤ i) × (i ≤ e) × (length out ≡ length out₀)
-    × (take i out ++ digits (e - i) x ++ drop e out₀ ≡ splice out₀ a e (digits (e - a) v)) × (drop e out ≡ drop e out₀)
+    × (take i out ++ littleEndian (e - i) x ++ drop e out₀ ≡ splice out₀ a e (littleEndian (e - a) v)) × (drop e out ≡ drop e out₀)
 
 abbrev μ-loop : tie.MeasureT-loop
 μ-loop out₀ a e v x₀ i₀ out x i = e - i
@@ -41,7 +41,7 @@ loop-again c =
       omega arith,
       omega arith,
       length-set (k .loop .out) (k .loop .i) (k .loop .x % 256) ∙ k .loop .inv .2,
-      digits-next (k .loop .out) (drop (a .e) (now (a .out))) (k .loop .i) (a .e) (k .loop .x) (omega arith) (omega arith) ∙ k .loop .inv .3,
+      littleEndian-next (k .loop .out) (drop (a .e) (now (a .out))) (k .loop .i) (a .e) (k .loop .x) (omega arith) (omega arith) ∙ k .loop .inv .3,
       drop-set-lt (a .e) (k .loop .out) (k .loop .i) (k .loop .x % 256) (omega arith) ∙ k .loop .inv .4,
     )
 
@@ -52,7 +52,7 @@ returns : tie.Need-returns Inv-loop μ-loop
 returns c =
     let k = c .before in
     let a = k .before .args in
-    digits-over (k .loop .out) (now (a .out)) (k .loop .i) (a .e) (k .loop .x) (omega arith) (k .loop .inv .4) ∙ k .loop .inv .3
+    littleEndian-over (k .loop .out) (now (a .out)) (k .loop .i) (a .e) (k .loop .x) (omega arith) (k .loop .inv .4) ∙ k .loop .inv .3
 
 pub put-value-spec : {M : Type 1} → statement M
 put-value-spec =

@@ -1,18 +1,18 @@
--- What is still to be laid on what is there now is the whole laid on the buffer as it was (`laid-next`).
+-- What is still to be stored over what is there now comes to all of it stored over the buffer as it was (`stored-next`).
 use Prim.Native.Nat.{_+_, _-_, _≤_}
 use mathlib.Core.Path.{_≡_, sym, ap, _∙_, refl}
 use native.Mathlib.Omega.{arith}
 use lib.ListN.{length, getD, drop}
 use borrow.Author.Needs.{needs}
 use denote.Ref.{now}
-use Rattle.wire.specs.Bytes.{laid, Rising}
-use Rattle.wire.proofs.Laying.{laid-next, rising-next, laid-over}
+use Rattle.wire.specs.Bytes.{stored, Rising}
+use Rattle.wire.proofs.Laying.{stored-next, rising-next, stored-over}
 use Rattle.wire.proofs.bytes.put_values.Statement.{statement}
 use Rattle.wire.proofs.bytes.put_values.Tie as tie
 
 abbrev Inv-loop : tie.InvT-loop
 Inv-loop out₀ ends v a₀ i₀ out a i = (i ≤ 15) × (length out ≡ length out₀) × Rising a (drop i ends) (length out₀)
-    × (laid a (drop i ends) (drop i v) out ≡ laid 0 ends v out₀)
+    × (stored a (drop i ends) (drop i v) out ≡ stored 0 ends v out₀)
 
 abbrev μ-loop : tie.MeasureT-loop
 μ-loop out₀ ends v a₀ i₀ out a i = 15 - i
@@ -57,8 +57,8 @@ loop-again c =
       omega arith,
       p .put-value .kept .0 ∙ k .loop .inv .1,
       r .2,
-      ap (laid (getD (a .t2) (k .loop .i) 0) (drop (k .loop .i + 1) (a .t2)) (drop (k .loop .i + 1) (a .t3))) (p .put-value .ensures)
-          ∙ sym (laid-next (k .loop .a) (k .loop .i) (a .t2) (a .t3) (k .loop .out) (omega arith) (omega arith)) ∙ k .loop .inv .3,
+      ap (stored (getD (a .t2) (k .loop .i) 0) (drop (k .loop .i + 1) (a .t2)) (drop (k .loop .i + 1) (a .t3))) (p .put-value .ensures)
+          ∙ sym (stored-next (k .loop .a) (k .loop .i) (a .t2) (a .t3) (k .loop .out) (omega arith) (omega arith)) ∙ k .loop .inv .3,
     )
 
 same-length : tie.Need-same-length Inv-loop μ-loop
@@ -69,7 +69,7 @@ returns c =
     let k = c .before in
     let a = k .before .before .args in
     let long : length (a .t2) ≡ 15 = search needs in
-    sym (laid-over (k .loop .a) (k .loop .i) (a .t2) (a .t3) (k .loop .out) (omega arith)) ∙ k .loop .inv .3
+    sym (stored-over (k .loop .a) (k .loop .i) (a .t2) (a .t3) (k .loop .out) (omega arith)) ∙ k .loop .inv .3
 
 pub put-values-spec : {M : Type 1} → statement M
 put-values-spec =
