@@ -24,7 +24,7 @@ module _ (b : Book) (index : ℕ) where
 
     pub told-missing : Told b index (record { answer = 5; name = replicate nameBytes 0; len = 0; scale = 0 })
     unfolding toldOf
-    told-missing = record { answer = rw (symbol-missing b index h); obeys = λ w. rw (symbol-missing b index h) }
+    told-missing = record { answer = rw (symbol-missing b index h); scale = rw (symbol-missing b index h); obeys = λ w. rw (symbol-missing b index h) }
 
   module _ (k : ℕ) (is : k ≡ placeOf index (view b)) (in-range : k < symbols) where
     pub quote-at : quoteOf index (view b) ≡ quotedIf (headAt b k .stale) (ordersAt b k)
@@ -39,6 +39,7 @@ module _ (b : Book) (index : ℕ) where
     unfolding toldOf
     told-at = record {
       answer = rw (registered-at b index k is in-range .there);
+      scale = rw (registered-at b index k is in-range .there);
       obeys = λ w.
           let s = w .sound k in-range in
           let long : length (headAt b k .name) ≡ nameBytes = ap length (s .zeros) ∙ length-padded _ in

@@ -1,6 +1,6 @@
 -- The quoted size is the sum over the live orders at the quoted price, and the best price is a fold of maxima, or minima, over them.
-use mathlib.Core.Bool.{Bool, true, false, cond, Bool·beq}
-use mathlib.Core.List.{List, [], _∷_, List·Memᴰ, List·Memᴰ·cases-cons, List·Memᴰ·not-nil}
+use mathlib.Core.Bool.{Bool, true, false, cond, Bool·beq, true≢false, false≢true}
+use mathlib.Core.List.{List, [], _∷_, List·Memᴰ, List·Memᴰ·head, List·Memᴰ·tail, List·Memᴰ·cases-cons, List·Memᴰ·not-nil}
 use mathlib.Core.Logic.{_⊎_, inl, inr}
 use mathlib.Core.Option.{Option, none, some}
 use mathlib.Core.Path.{_≡_, refl, sym, ap, _∙_}
@@ -8,7 +8,7 @@ use Prim.Native.Nat.{ℕ, _+_, _≤_, max, min}
 use native.Mathlib.Omega.{arith}
 use lib.Dec.{ltb}
 use lib.ListN.{length}
-use borrow.Author.Tests.{eq-eqb}
+use borrow.Author.Tests.{eq-eqb, ltb-true, ltb-false}
 use Rattle.feed.specs.Reader.{ruled, numbered}
 use Rattle.places.specs.Places.{fold, sumBy, insert, look}
 use Rattle.places.proofs.Sorted.{sum-insert}
@@ -16,7 +16,7 @@ use Rattle.places.proofs.Sums.{fold-insert}
 use Rattle.book.specs.State.{ordersEach, orderNumber, Symbol, View, symbolIn}
 use Rattle.book.specs.Rules.{applyTo, added, orderOf}
 use Rattle.book.specs.Step.{enacted, meets, actOn}
-use Rattle.book.specs.Quote.{counts, better, bestStep, noBest, bestOf, sharesAt, levelIf, levelOf, quotedIf, quoted, quoteOf, sideOf, NoBetter}
+use Rattle.book.specs.Quote.{counts, better, bestStep, noBest, bestOf, sharesAt, levelIf, levelOf, quotedIf, quoted, quoteOf, sideOf, NoBetter, Attained}
 use Rattle.book.specs.declared.Order.{Order}
 use Rattle.book.specs.declared.quote.Best.{Best}
 use Rattle.book.specs.declared.quote.Level.{Level}
@@ -94,6 +94,65 @@ best-of-all buy (x ∷ os) o m c = go (best-of-all buy os o) (List·Memᴰ·case
 pub best-price : (buy : Bool) (v : View) (index : ℕ) (s : Symbol) (p n : ℕ) → symbolIn index v ≡ some s → sideOf buy (quoteOf index v) ≡ Level.Best p n
     → (o : Order) → List·Memᴰ o (s .orders) → counts buy o ≡ true → NoBetter buy p (o .price)
 best-price buy v index s p n e q o m c = rw (shows buy (s .orders) p n (quoted-side buy v index s p n e q .1) .price) at (best-of-all buy (s .orders) o m c .1)
+
+-- ---- a live order of the side stands at the best price: it is the price at hand or the best so far
+module _ (buy : Bool) (x : Order) (os : List Order) (b : Best) (before : b .some ≡ true → Attained buy (b .price) os) where
+  own : counts buy x ≡ true → (p : ℕ) → x .price ≡ p → Attained buy p (x ∷ os)
+  own c p e = record { order = x; live = List·Memᴰ·head refl; side = c; at = e }
+
+  kept : b .some ≡ true → (p : ℕ) → b .price ≡ p → Attained buy p (x ∷ os)
+  kept s p e = let a = before s in record { order = a .order; live = List·Memᴰ·tail (a .live); side = a .side; at = a .at ∙ e }
+
+  picked : counts buy x ≡ true → (side some : Bool) → b .some ≡ some → Attained buy (cond some (cond side (max (b .price) (x .price)) (min (b .price) (x .price))) (x .price)) (x ∷ os)
+  picked c side false s = own c _ refl
+  picked c true true s = go (ltb (b .price) (x .price)) refl
+    where
+      go : (t : Bool) → ltb (b .price) (x .price) ≡ t → Attained buy (max (b .price) (x .price)) (x ∷ os)
+      go true q = own c _ (omega (arith, ltb-true (b .price) (x .price) q))
+      go false q = kept s _ (omega (arith, ltb-false (b .price) (x .price) q))
+  picked c false true s = go (ltb (b .price) (x .price)) refl
+    where
+      go : (t : Bool) → ltb (b .price) (x .price) ≡ t → Attained buy (min (b .price) (x .price)) (x ∷ os)
+      go true q = kept s _ (omega (arith, ltb-true (b .price) (x .price) q))
+      go false q = own c _ (omega (arith, ltb-false (b .price) (x .price) q))
+
+  step-attained : bestStep buy x b .some ≡ true → Attained buy (bestStep buy x b .price) (x ∷ os)
+  unfolding bestStep
+  step-attained = go (counts buy x) refl
+    where
+      go : (t : Bool) → counts buy x ≡ t → cond t (better buy (x .price) b) b .some ≡ true → Attained buy (cond t (better buy (x .price) b) b .price) (x ∷ os)
+      go true c e = picked c buy (b .some) refl
+      go false c e = kept e _ refl
+
+attained-of-all : (buy : Bool) (os : List Order) → bestOf buy os .some ≡ true → Attained buy (bestOf buy os .price) os
+unfolding fold
+attained-of-all buy [] e = absurd (false≢true e)
+attained-of-all buy (x ∷ os) e = step-attained buy x os (bestOf buy os) (attained-of-all buy os) e
+
+pub attained : (buy : Bool) (v : View) (index : ℕ) (s : Symbol) (p n : ℕ) → symbolIn index v ≡ some s → sideOf buy (quoteOf index v) ≡ Level.Best p n → Attained buy p (s .orders)
+attained buy v index s p n e q =
+    let sh = shows buy (s .orders) p n (quoted-side buy v index s p n e q .1) in
+    rw (sh .price) at (attained-of-all buy (s .orders) (sh .some))
+
+-- ---- where none is shown, none of the side is live
+none-best : (b : Best) (n : ℕ) → levelIf (b .some) (b .price) n ≡ Level.Empty → b .some ≡ false
+none-best b n = go (b .some)
+  where
+    go : (t : Bool) → levelIf t (b .price) n ≡ Level.Empty → t ≡ false
+    go true e = absurd (let z : _≡_ {A = ℕ} 0 1 = cc in omega arith)
+    go false e = refl
+
+empty-side : (stale buy : Bool) (os : List Order) → quotedIf stale os .answer ≡ 0 → sideOf buy (quotedIf stale os) ≡ Level.Empty → levelOf buy os ≡ Level.Empty
+empty-side true buy os z q = absurd (omega (arith, z))
+empty-side false true os z q = q
+empty-side false false os z q = q
+
+pub none-live : (buy : Bool) (v : View) (index : ℕ) (s : Symbol) → symbolIn index v ≡ some s → quoteOf index v .answer ≡ 0 → sideOf buy (quoteOf index v) ≡ Level.Empty
+    → (o : Order) → List·Memᴰ o (s .orders) → counts buy o ≡ true → ⊥
+unfolding quoteOf levelOf
+none-live buy v index s e z q o m c =
+    let level = empty-side (s .stale) buy (s .orders) (sym (ap (λ (x : Option Symbol). quoted x .answer) e) ∙ z) (sym (ap (λ (x : Option Symbol). sideOf buy (quoted x)) e) ∙ q) in
+    true≢false (sym (best-of-all buy (s .orders) o m c .0) ∙ none-best (bestOf buy (s .orders)) _ level)
 
 -- ---- an applied add at the best price raises the quoted size by its volume
 module _ (buy : Bool) (os : List Order) (n p v : ℕ) where

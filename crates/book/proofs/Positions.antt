@@ -1,8 +1,9 @@
 -- Each message that a walk passes is as long as its Msg Size, and the next one starts behind it, so the position is the start and the sizes passed.
 use mathlib.Core.List.{List, []}
 use mathlib.Core.Path.{_≡_, refl, sym, ap, _∙_}
-use Prim.Native.Nat.{ℕ, zero, suc, _+_, _≤_}
+use Prim.Native.Nat.{ℕ, zero, suc, _+_, _≤_, _<_}
 use native.Mathlib.Omega.{arith}
+use native.Mathlib.Nat.{not-suc-le-zero}
 use lib.ListN.{length, take, drop, length-drop}
 use lib.Seq.{take-take}
 use Rattle.wire.specs.Bytes.{value}
@@ -42,3 +43,18 @@ position-is-sum b s from r m = m .at ∙ walked (suc (length s)) s from
 pub past-the-end : (s : List ℕ) (at : ℕ) → length s ≤ at → walkOf s at ≡ record { messages = []; at = at; answer = 1 }
 unfolding walkOf walkFor
 past-the-end s at h = rw (reach-short (drop at s) (omega (arith, length-drop at s)))
+
+-- ---- where a run stops, the bytes from there on are why
+stopped-by : (f : ℕ) (s : List ℕ) (at : ℕ) → length (drop at s) < f → reachOf (drop (walkFor f s at .at) s) ≡ refused (walkFor f s at .answer)
+unfolding walkFor
+stopped-by zero s at h = absurd (not-suc-le-zero h)
+stopped-by (suc f) s at h = go (λ e k. stopped-by f s e k) (reachOf (drop at s)) refl
+  where
+    go : ((e : ℕ) → length (drop e s) < f → reachOf (drop (walkFor f s e .at) s) ≡ refused (walkFor f s e .answer)) → (x : Outcome ℕ) → reachOf (drop at s) ≡ x
+        → reachOf (drop (walkBy x s at (λ e. walkFor f s e) .at) s) ≡ refused (walkBy x s at (λ e. walkFor f s e) .answer)
+    go ih (refused a) e = e
+    go ih (done n) e = let r = reached (drop at s) n e in ih (at + n) (omega (arith, h, r .least, r .there, length-drop at s, length-drop (at + n) s))
+
+pub stops-there : (s : List ℕ) (at : ℕ) → reachOf (drop (walkOf s at .at) s) ≡ refused (walkOf s at .answer)
+unfolding walkOf
+stops-there s at = stopped-by (suc (length s)) s at (omega (arith, length-drop at s))

@@ -1,7 +1,8 @@
 -- What a quote and the day's volume are: document 01, "The book" and "The trade record".
 use mathlib.Core.Bool.{Bool, true, false, cond, Bool·beq}
-use mathlib.Core.List.{List}
+use mathlib.Core.List.{List, List·Memᴰ}
 use mathlib.Core.Option.{Option, none, some}
+use mathlib.Core.Path.{_≡_}
 use Prim.Native.Nat.{ℕ, max, min, _≤_}
 use lib.Dec.{eqb}
 use Rattle.places.specs.Places.{fold, sumBy}
@@ -57,15 +58,6 @@ quoted (some s) = quotedIf (s .stale) (s .orders)
 unfoldable pub quoteOf : ℕ → View → Quote
 quoteOf index v = quoted (symbolIn index v)
 
--- one side of a quote; and that no price of a side is better than one
-abbrev pub sideOf : Bool → Quote → Level
-sideOf true q = q .bid
-sideOf false q = q .ask
-
-abbrev pub NoBetter : Bool → ℕ → ℕ → Type 0
-NoBetter true best p = p ≤ best
-NoBetter false best p = best ≤ p
-
 -- the day's volume is the sum over kept trades, given in any state
 abbrev pub sharesIn : Trade → ℕ
 sharesIn t = t .volume
@@ -76,3 +68,19 @@ volumeIn (some s) = record { answer = 0; shares = sumBy sharesIn (s .trades); wh
 
 unfoldable pub volumeOf : ℕ → View → Volume
 volumeOf index v = volumeIn (symbolIn index v)
+
+-- ---- what is said of a quote: one side of it; that no price of the side is better than the best
+abbrev pub sideOf : Bool → Quote → Level
+sideOf true q = q .bid
+sideOf false q = q .ask
+
+abbrev pub NoBetter : Bool → ℕ → ℕ → Type 0
+NoBetter true best p = p ≤ best
+NoBetter false best p = best ≤ p
+
+-- a live order of the side has this price
+pub record Attained (buy : Bool) (price : ℕ) (os : List Order) : Type 0 where
+  pub order : Order
+  pub live : List·Memᴰ order os
+  pub side : counts buy order ≡ true
+  pub at : order .price ≡ price

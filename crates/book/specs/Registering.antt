@@ -43,6 +43,8 @@ unfoldable pub toldOf : Option Symbol → Registered
 toldOf none = record { answer = 5; name = replicate nameBytes 0; len = 0; scale = 0 }
 toldOf (some s) = record { answer = 0; name = paddedName (s .name); len = length (s .name); scale = s .scale }
 
+-- answer and scale are told of any state
 pub record Told (b : Book) (index : ℕ) (r : Registered) : Type 0 where
   pub answer : r .answer ≡ toldOf (symbolIn index (view b)) .answer
+  pub scale : r .scale ≡ toldOf (symbolIn index (view b)) .scale
   pub obeys : Wf b → r ≡ toldOf (symbolIn index (view b))

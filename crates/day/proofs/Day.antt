@@ -13,7 +13,8 @@ use Rattle.book.specs.Registering.{nameBad, registerOf, toldOf}
 use Rattle.book.specs.declared.Book.{Book}
 use Rattle.book.specs.declared.symbols.Registered.{Registered}
 use Rattle.page.specs.Printing.{lineOf, told}
-use Rattle.page.proofs.Marked as marked
+use Rattle.page.specs.Marked as marked
+use Rattle.page.proofs.Marked.{case-l}
 use Rattle.demands.specs.Examples.{HasABC}
 use Rattle.book.specs.Quote.{bestStep, sharesAt, levelOf, quoteOf}
 use Rattle.feed.specs.Reader.{ruled}
@@ -51,9 +52,11 @@ unfolding first placeOf symbolIn vacancyOf nameBad registerOf toldOf paddedName 
 abc-told p = ap (λ (v : View). toldOf (symbolIn 7 v)) (has-view p) ∙ refl
 
 line-l : LineL
+unfolding value littleEndian shapeOf faultBy faultOf reachBy reachOf readBy readBody readSized readShape readTyped readReached readOf
 line-l = record {
+  reads = refl;
   by-calls = λ p out after h promise room.
-      promise (began-wf (has-began h)) ∙ ap (λ (s : Registered). lineOf s marked.add marked.firm 57 34200 out) (abc-told h) ∙ marked.case-l out room;
+      promise (began-wf (has-began h)) ∙ ap (λ (s : Registered). lineOf s marked.add marked.firm marked.sequenceL marked.secondL out) (abc-told h) ∙ case-l out room;
 }
 
 -- THE DAY

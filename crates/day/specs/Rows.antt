@@ -4,7 +4,7 @@ use mathlib.Core.List.{List, [], _∷_, _++_}
 use mathlib.Core.Path.{_≡_}
 use lib.ListN.{length, take, drop}
 use Rattle.wire.specs.Outcome.{done}
-use Rattle.wire.specs.Reading.{reachOf}
+use Rattle.wire.specs.Reading.{reachOf, readOf}
 use Rattle.book.specs.State.{View, view, Wf}
 use Rattle.book.specs.Quote.{noQuote, quoteOf}
 use Rattle.book.specs.Walk.{landing, moveOf, stepsOf, Moves}
@@ -13,7 +13,7 @@ use Rattle.book.specs.declared.walk.Moved.{Moved}
 use Rattle.book.specs.declared.quote.Quote.{Quote}
 use Rattle.page.specs.declared.Printed.{Printed}
 use Rattle.page.specs.Printing.{printed, lineOf, told}
-use Rattle.page.proofs.Marked as marked
+use Rattle.page.specs.Marked as marked
 use Rattle.demands.specs.Demand3.{Reads}
 use Rattle.demands.specs.Examples.{HasABC, viewABC}
 use Rattle.demands.specs.Messages.{index, buy, add, delete, execute, replace, clear, shows, none, _at_}
@@ -110,9 +110,10 @@ rows =
     ∷ row (the-first 4) (execute 5 1002 2 1235000 70) 0 42 (shows none none)
     ∷ []
 
--- ---- L: the line of #3, an add, with sequence number 57 and second 34,200, from any state with ABC registered into any buffer that has room
+-- ---- L: the line of #3, an add, read from its bytes, into any buffer that has room
 pub record LineL : Type 0 where
-  pub by-calls : {b : Book} (p : Printed) (out after : List ℕ) → HasABC b → (Wf b → printed p after ≡ lineOf (told b marked.add) marked.add marked.firm 57 34200 out)
+  pub reads : readOf (add 3 1001 buy 1234500 200) ≡ record { outcome = done marked.add; plain = marked.firm }
+  pub by-calls : {b : Book} (p : Printed) (out after : List ℕ) → HasABC b → (Wf b → printed p after ≡ lineOf (told b marked.add) marked.add marked.firm marked.sequenceL marked.secondL out)
       → length marked.lineL ≤ length out → printed p after ≡ record { outcome = done (length marked.lineL); out = marked.lineL ++ drop (length marked.lineL) out }
 
 -- ---- all of the day

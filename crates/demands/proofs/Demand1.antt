@@ -1,13 +1,13 @@
 -- Demand 1: the numbers are those of the rules' clauses, and only the clause that is done brings other orders.
-use Prim.Native.Nat.{ℕ, zero, suc, _+_, _≤_}
+use Prim.Native.Nat.{ℕ, _≤_}
 use native.Mathlib.Omega.{arith}
-use mathlib.Core.Bool.{Bool, true, false}
+use mathlib.Core.Bool.{Bool, true, false, cond, false≢true}
 use mathlib.Core.List.{List, [], _∷_}
 use mathlib.Core.Logic.{_≢_}
 use mathlib.Core.Option.{Option, none, some}
 use mathlib.Core.Path.{_≡_, refl, sym, ap, _∙_}
 use lib.Dec.{ltb, eqb}
-use lib.ListN.{length, take, drop}
+use lib.ListN.{take, drop}
 use borrow.Author.Tests.{eqb-true, eqb-false}
 use Rattle.wire.specs.Outcome.{Outcome, done, refused}
 use Rattle.wire.specs.Reading.{msgType, reachOf, readOf}
@@ -17,13 +17,15 @@ use Rattle.places.specs.Places.{among}
 use Rattle.book.specs.State.{Symbol, View, view, placeOf, symbolIn}
 use Rattle.book.specs.Rules.{applyTo}
 use Rattle.book.specs.Record.{dealOf}
+use Rattle.book.specs.Promises.{unchanging}
 use Rattle.book.specs.Registering.{toldOf}
 use Rattle.book.specs.Step.{Next, enacted, meets, actAt, actOn, meant, stepOn, stepOf}
-use Rattle.book.specs.Walk.{moveBy, moveOf, walkBy, walkFor, walkOf}
+use Rattle.book.specs.Walk.{moveBy, moveOf, walkOf}
 use Rattle.book.specs.Reached.{Reached}
 use Rattle.book.specs.declared.Book.{Book}
 use Rattle.book.proofs.Answers.{register-answers, quote-answers, volume-answers}
 use Rattle.book.proofs.Isolation.{unregistered-stays, own-symbol, own-symbol-only}
+use Rattle.book.proofs.Positions.{stops-there}
 use Rattle.book.proofs.Reaching.{reached-wf}
 use Rattle.demands.specs.Reader.{Orders, Effect}
 use Rattle.demands.specs.Demand1.{liveOf, Demand1}
@@ -93,20 +95,18 @@ move-keeps v s at = go (reachOf (drop at s)) refl
     go (done n) e = step-keeps v (take n (drop at s))
     go (refused a) e = refusing-keeps v a (omega (arith, reach-refuses (drop at s) a e .1))
 
--- ---- a run stops at 1 or 2
-walk-stops : (fuel : ℕ) (s : List ℕ) (at : ℕ) → (1 ≤ walkFor fuel s at .answer) × (walkFor fuel s at .answer ≤ 2)
-unfolding walkFor
-walk-stops zero s at = (omega arith, omega arith)
-walk-stops (suc fuel) s at = go (walk-stops fuel s) (reachOf (drop at s)) refl
+-- ---- a registering that is refused is one that changes nothing
+refused-registering : (a : ℕ) → among a (0 ∷ 11 ∷ 12 ∷ 13 ∷ []) ≡ true → a ≢ 0 → unchanging a ≡ true
+unfolding among
+refused-registering a h n = go (eqb a 0) (eqb a 11) (eqb a 12) (eqb a 13) refl refl refl refl h
   where
-    go : ((e : ℕ) → (1 ≤ walkFor fuel s e .answer) × (walkFor fuel s e .answer ≤ 2)) → (x : Outcome ℕ) → reachOf (drop at s) ≡ x
-        → (1 ≤ walkBy x s at (λ e. walkFor fuel s e) .answer) × (walkBy x s at (λ e. walkFor fuel s e) .answer ≤ 2)
-    go ih (refused a) e = reach-refuses (drop at s) a e
-    go ih (done n) e = ih (at + n)
-
-walk-answers : (s : List ℕ) (at : ℕ) → (1 ≤ walkOf s at .answer) × (walkOf s at .answer ≤ 2)
-unfolding walkOf
-walk-answers s at = walk-stops (suc (length s)) s at
+    go : (none known full bad : Bool) → eqb a 0 ≡ none → eqb a 11 ≡ known → eqb a 12 ≡ full → eqb a 13 ≡ bad
+        → cond none true (cond known true (cond full true (cond bad true false))) ≡ true → unchanging a ≡ true
+    go true known full bad p q r t e = absurd (n (eqb-true a 0 p))
+    go false true full bad p q r t e = rw (eqb-true a 11 q)
+    go false false true bad p q r t e = rw (eqb-true a 12 r)
+    go false false false true p q r t e = rw (eqb-true a 13 t)
+    go false false false false p q r t e = absurd (false≢true e)
 
 told-answers : (x : Option Symbol) → among (toldOf x .answer) (0 ∷ 5 ∷ []) ≡ true
 unfolding toldOf among
@@ -116,11 +116,12 @@ told-answers (some s) = refl
 pub demand-1-holds : {b : Book} → Reached b → Demand1 b
 demand-1-holds {b = b} p = record {
   applying = λ {s = s} {at = at} m. rw (m .obeys (reached-wf p) .answer) (move-keeps (view b) s at .bound);
-  running = λ {s = s} {at = at} m. rw (m .answer) (walk-answers s at);
+  running = λ {s = s} {at = at} m. rw (m .answer) (reach-refuses (drop (walkOf s at .at) s) (walkOf s at .answer) (stops-there s at));
   registering = λ index name scale m. rw (m .obeys (reached-wf p) .answer) (register-answers (view b) index name scale);
   quoting = quote-answers (view b);
   summing = volume-answers (view b);
   telling = λ index t. rw (t .answer) (told-answers (symbolIn index (view b)));
+  registering-unchanged = λ index name scale m n. m .kept (refused-registering _ (rw (m .obeys (reached-wf p) .answer) (register-answers (view b) index name scale)) n);
   refused-unchanged = λ m. m .kept;
   refused-no-order = λ {s = s} {at = at} m n index. let o = m .obeys (reached-wf p) in
       ap (λ (v : View). liveOf (symbolIn index v)) (o .next-view) ∙ move-keeps (view b) s at .unless-done (λ z. n (o .answer ∙ z)) index;

@@ -6,7 +6,7 @@ use mathlib.Core.List.{List, [], _∷_}
 use mathlib.Core.Option.{Option, none, some}
 use mathlib.Core.Path.{_≡_, refl, sym, ap, _∙_}
 use lib.ListN.{take, drop}
-use Rattle.wire.specs.Outcome.{Outcome, done}
+use Rattle.wire.specs.Outcome.{done}
 use Rattle.wire.specs.Reading.{readOf}
 use Rattle.wire.specs.declared.Head.{Head}
 use Rattle.wire.specs.declared.Message.{Message}
@@ -14,7 +14,7 @@ use Rattle.wire.proofs.RoundTrip.{read-what-was-written, write-what-was-read}
 use Rattle.book.specs.State.{Symbol, View, view, symbolIn}
 use Rattle.book.specs.Quote.{quoted, quoteOf, sideOf}
 use Rattle.book.specs.Step.{Next, buys, actOn, meant, stepOn, stepOf}
-use Rattle.book.specs.Walk.{moveBy, moveOf, walkOf, stepsOf, runOf, Moves, Runs}
+use Rattle.book.specs.Walk.{moveOf, walkOf, stepsOf, runOf, Moves, Runs}
 use Rattle.book.specs.Reached.{Reached}
 use Rattle.book.specs.declared.Book.{Book}
 use Rattle.book.specs.declared.quote.Level.{Level}
@@ -22,19 +22,18 @@ use Rattle.book.specs.declared.walk.Moved.{Moved}
 use Rattle.book.specs.declared.walk.Ran.{Ran}
 use Rattle.book.proofs.Holding.{orders-within, trades-within, one-live, one-kept}
 use Rattle.book.proofs.Isolation.{step-others, apply-others}
-use Rattle.book.proofs.Positions.{position-is-sum}
-use Rattle.book.proofs.Levels.{exact-sum, best-price, case-d}
+use Rattle.book.proofs.Positions.{position-is-sum, stops-there}
+use Rattle.book.proofs.Levels.{exact-sum, attained, best-price, none-live, case-d}
+use Rattle.book.proofs.Marks.{apply-mark, run-mark}
 use Rattle.book.proofs.Reaching.{reached-wf}
 use Rattle.demands.specs.Demand2.{OfSymbol, OfMessage, AllNotFor, OfRun, Demand2, RoundTrips}
 use Rattle.demands.specs.Demand3.{StandsAt, quoteIn}
+use Rattle.demands.proofs.Demand3.{stands-step}
 
 -- a message that stands there and is read is one act
 stands-acts : (v : View) {s : List ℕ} {at : ℕ} {m : List ℕ} {x : Message} → StandsAt s at m → readOf m .outcome ≡ done x → moveOf v s at ≡ actOn v (meant x)
-unfolding moveOf stepOf
-stands-acts v {s = s} {at = at} t e =
-    ap (λ (o : Outcome ℕ). moveBy o v s at) (t .reaches)
-    ∙ ap (λ (b : List ℕ). stepOn v (readOf b .outcome)) (t .bytes)
-    ∙ ap (stepOn v) e
+unfolding stepOf
+stands-acts v t e = stands-step v t ∙ ap (stepOn v) e
 
 -- what is quoted at a price is of a registered symbol
 record Quoted (index : ℕ) (v : View) : Type 0 where
@@ -70,7 +69,9 @@ module _ {b : Book} (p : Reached b) where
   of-symbol : (index : ℕ) (s : Symbol) → symbolIn index (view b) ≡ some s → OfSymbol b index s
   of-symbol index s e = record {
     exact-sum = λ buy price size. exact-sum buy (view b) index s price size e;
+    attained = λ buy price size. attained buy (view b) index s price size e;
     best-price = λ buy price size. best-price buy (view b) index s price size e;
+    none-live = λ buy. none-live buy (view b) index s e;
     orders-within = orders-within b index s e;
     one-live = one-live b index s e (reached-wf p);
     trades-within = trades-within b index s e;
@@ -82,6 +83,7 @@ module _ {b : Book} (p : Reached b) where
     effects = m .obeys (reached-wf p);
     case-d = add-raises m;
     others-unchanged = λ index other. apply-others b s at r (reached-wf p) m index (λ n x e f. other (take n (drop at s)) (record { size = n; reaches = e; bytes = refl }) x f);
+    mark-stays-lost = λ index. apply-mark index b s at r (reached-wf p) m;
   }
 
   of-run : {s : List ℕ} {from : ℕ} {r : Ran} → Runs b s from r → OfRun b s from r
@@ -89,7 +91,9 @@ module _ {b : Book} (p : Reached b) where
   of-run {s = s} {from = from} {r = r} m = record {
     effects = m .obeys (reached-wf p);
     position = position-is-sum b s from r m;
+    stopped = rw (m .at, m .answer) (stops-there s from);
     others-unchanged = λ index other. ap (symbolIn index) (m .obeys (reached-wf p) .next-view) ∙ steps-others index (walkOf s from .messages) (view b) other;
+    mark-stays-lost = λ index. run-mark index b s from r (reached-wf p) m;
   }
 
   pub demand-2-holds : Demand2 b

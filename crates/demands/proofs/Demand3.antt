@@ -11,11 +11,12 @@ use Rattle.feed.proofs.Demand3.{demand-3}
 use Rattle.book.specs.State.{View, view, Wf}
 use Rattle.book.specs.Step.{Next, actOn, stepOf}
 use Rattle.book.specs.Quote.{quoteOf}
-use Rattle.book.specs.Walk.{moveBy, moveOf, stepsOf, runOf}
+use Rattle.book.specs.Walk.{moveBy, moveOf, stepsOf, runOf, Moves}
 use Rattle.book.specs.declared.Book.{Book}
+use Rattle.book.specs.declared.walk.Moved.{Moved}
 use Rattle.demands.specs.Reader.{pillar, asQuote}
-use Rattle.demands.specs.ByteFeed.{ByteFeed, hears, sent, delivered, actIn, feedOf}
-use Rattle.demands.specs.Demand3.{Reads, nothing, applies, refuses, runs, RunsOver, ran, Given, Demand3, quoteIn}
+use Rattle.demands.specs.ByteFeed.{ByteFeed, hears, sent, delivered, IsDone, Applied, actIn, feedOf}
+use Rattle.demands.specs.Demand3.{Began, StandsAt, Reads, nothing, applies, refuses, runs, RunsOver, ran, Given, AnswersZero, nothing-yet, to-heard, to-lost, Demand3, quoteIn}
 use Rattle.demands.proofs.Reader.{reader, quotes-kept}
 use Rattle.demands.proofs.Starting.{began-wf}
 use Rattle.demands.proofs.Laying.{AllComplete, sent-complete, delivered-complete, walks-messages}
@@ -23,23 +24,26 @@ use Rattle.demands.proofs.Moments.{given-at}
 use Rattle.demands.proofs.Refused.{refused-changes-nothing, counted-steps, all-count}
 use Rattle.demands.proofs.Translating.{steps-join, steps-last, first-steps, second-steps, heard-acts, is-registered, given-feed}
 
+-- ---- a message that stands there is stepped over
+pub stands-step : (v : View) {s : List ℕ} {at : ℕ} {m : List ℕ} → StandsAt s at m → moveOf v s at ≡ stepOf v (readOf m)
+unfolding moveOf
+stands-step v {s = s} {at = at} t = ap (λ (x : Outcome ℕ). moveBy x v s at) (t .reaches) ∙ ap (λ (b : List ℕ). stepOf v (readOf b)) (t .bytes)
+
 -- ---- the state after some messages, by the calls' promises
 pub record After (b : Book) (ms : List (List ℕ)) (r : Book) : Type 0 where
   pub sound : Wf r
   pub seen : view r ≡ stepsOf (view b) ms
 
 pub reads-after : {b r : Book} {ms : List (List ℕ)} → Wf b → Reads b ms r → After b ms r
-unfolding stepsOf moveOf runOf
+unfolding stepsOf runOf
 reads-after w nothing = record { sound = w; seen = refl }
-reads-after {b = b} w (applies {ms = ms} {c = c} {s = s} {at = at} {m = m} p stands moves) =
+reads-after {b = b} w (applies {ms = ms} {c = c} {m = m} p stands moves) =
     let a = reads-after w p in
     let o = moves .obeys (a .sound) in
     record {
       sound = o .wf;
-      seen = o .next-view
-          ∙ ap (λ (x : Outcome ℕ). moveBy x (view c) s at .view) (stands .reaches)
-          ∙ (λ i. stepOf (a .seen i) (readOf (stands .bytes i)) .view)
-          ∙ sym (steps-last (view b) ms m);
+      seen = o .next-view ∙ ap (λ (x : Next). x .view) (stands-step (view c) stands)
+          ∙ ap (λ (v : View). stepOf v (readOf m) .view) (a .seen) ∙ sym (steps-last (view b) ms m);
     }
 reads-after w (refuses p moves least most) =
     let a = reads-after w p in
@@ -52,27 +56,32 @@ reads-after {b = b} w (runs {ms = ms} {ns = ns} {c = c} p run counted) =
 
 -- ---- any way of giving a reader complete messages that leaves the view that the rule says
 abbrev Faithful : (Book → List (List ℕ) → Book → Type 0) → Type 0
-Faithful Takes = (b : Book) (ms : List (List ℕ)) (r : Book) → Wf b → AllComplete ms → Takes b ms r → view r ≡ stepsOf (view b) ms
+Faithful Takes = (b : Book) (ms : List (List ℕ)) (r : Book) → Wf b → AllComplete ms → Takes b ms r → After b ms r
 
 module _ (Takes : Book → List (List ℕ) → Book → Type 0) (faithful : Faithful Takes) (b c : Book) where
   module _ {f : ByteFeed} (g : Given b c f) where
     first-quotes : {r : Book} → Takes b (sent f) r → (index : ℕ) → quoteIn r index ≡ asQuote (quote pillar reader (first pillar reader (view b) (feedOf f)) index)
     first-quotes {r = r} t index =
-        ap (quoteOf index) (faithful b (sent f) r (began-wf (g .first-began)) (sent-complete f (g .complete)) t ∙ first-steps (view b) f (g .applied))
+        ap (quoteOf index) (faithful b (sent f) r (began-wf (g .first-began)) (sent-complete f (g .complete)) t .seen ∙ first-steps (view b) f (g .applied))
         ∙ quotes-kept (first pillar reader (view b) (feedOf f)) index
 
+    second-after : {r : Book} → Takes c (delivered f) r → After c (delivered f) r
+    second-after {r = r} t = faithful c (delivered f) r (began-wf (g .second-began)) (delivered-complete f (g .complete)) t
+
     second-view : {r : Book} → Takes c (delivered f) r → view r ≡ second pillar reader (view c) (feedOf f)
-    second-view {r = r} t = faithful c (delivered f) r (began-wf (g .second-began)) (delivered-complete f (g .complete)) t ∙ second-steps (view b) (view c) f (g .applied)
+    second-view t = second-after t .seen ∙ second-steps (view b) (view c) f (g .applied)
 
     second-quotes : {r : Book} → Takes c (delivered f) r → (index : ℕ) → quoteIn r index ≡ asQuote (quote pillar reader (second pillar reader (view c) (feedOf f)) index)
     second-quotes {r = r} t index =
         ap (quoteOf index) (second-view t)
         ∙ quotes-kept (second pillar reader (view c) (feedOf f)) index
 
-    answers-next : {r : Book} → Takes c (delivered f) r → (m : List ℕ) → Given b c (hears f m) → stepOf (view r) (readOf m) .answer ≡ feed.answered (phase (indexOf (actIn m)) (feedOf f)) (actIn m)
+    answers-next : {d : Book} → Takes c (delivered f) d → {s : List ℕ} {at : ℕ} {m : List ℕ} {r : Moved} → Given b c (hears f m) → StandsAt s at m → Moves d s at r
+        → r .answer ≡ feed.answered (phase (indexOf (actIn m)) (feedOf f)) (actIn m)
     unfolding feedOf
-    answers-next {r = r} t m h =
-        ap (λ (x : Next). x .answer) (heard-acts (view b) f m (h .applied) (view r)) ∙ ap (λ (v : View). actOn v (actIn m) .answer) (second-view t)
+    answers-next {d = d} t {s = s} {at = at} {m = m} h stands moves =
+        moves .obeys (second-after t .sound) .answer ∙ ap (λ (x : Next). x .answer) (stands-step (view d) stands ∙ heard-acts (view b) f m (h .applied) (view d))
+        ∙ ap (λ (v : View). actOn v (actIn m) .answer) (second-view t)
         ∙ demand-3 pillar reader (view b) (view c) .answers (given-feed b c (hears f m) h)
 
   abbrev of-views : feed.Demand3 pillar reader (view b) (view c)
@@ -100,11 +109,29 @@ demand-3-over-views = demand-3 pillar reader
 
 -- for readers that are given the feed by any calls,
 pub demand-3-holds : (b c : Book) → Demand3 Reads b c
-demand-3-holds = demanded Reads (λ b ms r w a p. reads-after w p .seen)
+demand-3-holds = demanded Reads (λ b ms r w a p. reads-after w p)
 
 -- and from bytes: each is one run over the messages laid end to end
 run-reads : {b r : Book} {ms : List (List ℕ)} → AllComplete ms → RunsOver b ms r → Reads b ms r
 run-reads {b = b} {ms = ms} a (ran p) = runs {ns = ms} nothing p (rw (walks-messages ms a) (all-count (view b) ms))
 
 pub demand-3-from-bytes : (b c : Book) → Demand3 RunsOver b c
-demand-3-from-bytes = demanded RunsOver (λ b ms r w a p. reads-after w (run-reads a p) .seen)
+demand-3-from-bytes = demanded RunsOver (λ b ms r w a p. reads-after w (run-reads a p))
+
+-- ---- a reader that answers 0 to all of a feed applies it without one refusal
+zero-reads : {b r : Book} {f : ByteFeed} → AnswersZero b f r → Reads b (sent f) r
+unfolding sent
+zero-reads nothing-yet = nothing
+zero-reads (to-heard p stands moves z) = applies (zero-reads p) stands moves
+zero-reads (to-lost p stands moves z) = applies (zero-reads p) stands moves
+
+zero-done : {b c : Book} {f : ByteFeed} {s : List ℕ} {at : ℕ} {m : List ℕ} {r : Moved} → Wf b → AnswersZero b f c → StandsAt s at m → Moves c s at r → r .answer ≡ 0 → IsDone (view b) (sent f) m
+zero-done {c = c} {m = m} w p stands moves z =
+    let a = reads-after w (zero-reads p) in
+    ap (λ (v : View). stepOf v (readOf m) .answer) (sym (a .seen)) ∙ sym (ap (λ (x : Next). x .answer) (stands-step (view c) stands)) ∙ sym (moves .obeys (a .sound) .answer) ∙ z
+
+pub applied-by-calls : {b r : Book} {f : ByteFeed} → Began b → AnswersZero b f r → Applied (view b) f
+unfolding Applied
+applied-by-calls g nothing-yet = tt
+applied-by-calls g (to-heard p stands moves z) = (applied-by-calls g p, zero-done (began-wf g) p stands moves z)
+applied-by-calls g (to-lost p stands moves z) = (applied-by-calls g p, zero-done (began-wf g) p stands moves z)

@@ -28,7 +28,7 @@ use Rattle.demands.specs.Reader.{Effect, Registered}
 use Rattle.demands.specs.ByteFeed.{ByteFeed, sent, delivered, Complete, Applied, ClearsDelivered}
 use Rattle.demands.specs.Demand3.{Began, Given}
 use Rattle.demands.specs.Demand3 as began
-use Rattle.demands.specs.Examples.{name, scale, HasABC, registered, viewABC, other, viewABCThenXYZ, viewXYZThenABC, withLosses, quotesAlong, alongLosses, last, pastTheLast, lastLost}
+use Rattle.demands.specs.Examples.{name, scale, HasABC, registered, viewABC, other, viewABCThenXYZ, viewXYZThenABC, oneAdd, withLosses, quotesAlong, alongLosses, last, pastTheLast, lastLost}
 use Rattle.demands.specs.Messages.{index}
 
 pub has-began : {b : Book} → HasABC b → Began b
@@ -58,6 +58,7 @@ met-by-ABC f x p q = met viewABC viewABC f x (λ i. ((λ y. y), (λ y. y))) (has
 
 -- by computation
 record AllFair : Type 0 where
+  pub one-add : Fair viewABC oneAdd
   pub with-losses : Fair viewABC withLosses
   pub to-two : Fair viewABCThenXYZ withLosses
   pub past-the-last : Fair viewABC pastTheLast
@@ -67,6 +68,7 @@ record AllFair : Type 0 where
 all-fair : AllFair
 unfolding Complete Applied ClearsDelivered sent quotesAlong delivered quoteOf levelOf bestStep sharesAt fold sumBy value littleEndian shapeOf faultBy faultOf reachBy reachOf readBy readBody readSized readShape readTyped readReached readOf first insert remove look placeOf symbolIn vacancyOf applyTo dealTo nameBad registerOf ruled enacted meets actOn meant stepOf stepsOf
 all-fair = record {
+  one-add = record { complete = (tt, refl); applied = (tt, refl); clears = tt };
   with-losses = record {
     complete = ((((((tt, refl), refl), refl), refl), refl), refl);
     applied = ((((((tt, refl), refl), refl), refl), refl), refl);
@@ -88,6 +90,9 @@ losses-quoted = all-fair .along
 
 -- THE PREMISE IS MET, with losses and at number 4,294,967,295
 module _ {b c : Book} (p : HasABC b) (q : HasABC c) where
+  pub given-one-add : Given b c oneAdd
+  given-one-add = met-by-ABC oneAdd (all-fair .one-add) p q
+
   pub given-with-losses : Given b c withLosses
   given-with-losses = met-by-ABC withLosses (all-fair .with-losses) p q
 

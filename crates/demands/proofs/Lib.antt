@@ -10,3 +10,4 @@ pub mod Demand3
 pub mod Clauses
 pub mod OneOutcome
 pub mod Examples
+pub mod Unfaithful

@@ -31,6 +31,8 @@ pub record Demand1 (b : Book) : Type 0 where
   pub quoting : (index : ℕ) → among (quoteOf index (view b) .answer) (0 ∷ 5 ∷ 8 ∷ []) ≡ true
   pub summing : (index : ℕ) → among (volumeOf index (view b) .answer) (0 ∷ 5 ∷ []) ≡ true
   pub telling : {r : asked.Registered} (index : ℕ) → Told b index r → among (r .answer) (0 ∷ 5 ∷ []) ≡ true
+  -- a refused registering leaves the state as it was
+  pub registering-unchanged : {r : Done} (index : ℕ) (name : List ℕ) (scale : ℕ) → Steps b (registerOf (view b) index name scale) r → r .answer ≢ 0 → r .book ≡ b
   -- 1 to 6 and 8 leave the state as it was, and no refusal changes an order
   pub refused-unchanged : {s : List ℕ} {at : ℕ} {r : Moved} → Moves b s at r → unchanging (r .answer) ≡ true → r .book ≡ b
   pub refused-no-order : {s : List ℕ} {at : ℕ} {r : Moved} → Moves b s at r → r .answer ≢ 0 → (index : ℕ) → liveOf (symbolIn index (view (r .book))) ≡ liveOf (symbolIn index (view b))

@@ -1,16 +1,16 @@
 -- Demand 2 of document 00, gathered: what is quoted of a state, and what a message does to it.
 use Prim.Native.Nat.{ℕ, _+_, _≤_}
-use mathlib.Core.Bool.{Bool, true}
+use mathlib.Core.Bool.{Bool, true, false}
 use mathlib.Core.List.{List, [], _∷_, List·Memᴰ}
 use mathlib.Core.Logic.{_≢_}
 use mathlib.Core.Option.{some}
 use mathlib.Core.Path.{_≡_}
 use lib.Dec.{eqb}
-use lib.ListN.{length}
-use Rattle.wire.specs.Outcome.{done}
+use lib.ListN.{length, drop}
+use Rattle.wire.specs.Outcome.{done, refused}
 use Rattle.wire.specs.Bytes.{plainRoom}
 use Rattle.wire.specs.Message.{fieldsOf}
-use Rattle.wire.specs.Reading.{msgSize, readOf}
+use Rattle.wire.specs.Reading.{msgSize, reachOf, readOf}
 use Rattle.wire.specs.Writing.{writeOf}
 use Rattle.wire.specs.RoundTrip.{InRange, Bytes, ReadsBack, WritesBack}
 use Rattle.wire.specs.declared.Head.{Head}
@@ -19,7 +19,7 @@ use Rattle.feed.specs.Reader.{indexOf}
 use Rattle.places.specs.Places.{count, sumBy}
 use Rattle.book.specs.State.{ordersEach, tradesEach, orderNumber, tradeNumber, Symbol, view, symbolIn}
 use Rattle.book.specs.Promises.{Obeys}
-use Rattle.book.specs.Quote.{counts, sharesAt, sideOf, NoBetter}
+use Rattle.book.specs.Quote.{counts, sharesAt, sideOf, NoBetter, Attained, volumeOf}
 use Rattle.book.specs.Step.{buys, meant}
 use Rattle.book.specs.Walk.{moveOf, walkOf, runOf, Moves, Runs}
 use Rattle.book.specs.declared.Book.{Book}
@@ -36,8 +36,12 @@ NotFor index m = (x : Message) → readOf m .outcome ≡ done x → index ≢ in
 pub record OfSymbol (b : Book) (index : ℕ) (s : Symbol) : Type 0 where
   -- a price level holds the exact sum of its live orders,
   pub exact-sum : (buy : Bool) (price size : ℕ) → sideOf buy (quoteIn b index) ≡ Level.Best price size → size ≡ sumBy (sharesAt buy price) (s .orders)
-  -- and no live order of its side is better
+  -- a live order of its side stands at the price,
+  pub attained : (buy : Bool) (price size : ℕ) → sideOf buy (quoteIn b index) ≡ Level.Best price size → Attained buy price (s .orders)
+  -- no live order of its side is better,
   pub best-price : (buy : Bool) (price size : ℕ) → sideOf buy (quoteIn b index) ≡ Level.Best price size → (o : _) → List·Memᴰ o (s .orders) → counts buy o ≡ true → NoBetter buy price (o .price)
+  -- and where a quote shows none on a side, none is live there
+  pub none-live : (buy : Bool) → quoteIn b index .answer ≡ 0 → sideOf buy (quoteIn b index) ≡ Level.Empty → (o : _) → List·Memᴰ o (s .orders) → counts buy o ≡ true → ⊥
   -- no more live orders than a symbol's places, and at most one of a number; of the kept trades likewise
   pub orders-within : length (s .orders) ≤ ordersEach
   pub one-live : (number : ℕ) → count (λ o. eqb (orderNumber o) number) (s .orders) ≤ 1
@@ -53,6 +57,8 @@ pub record OfMessage (b : Book) (s : List ℕ) (at : ℕ) (r : Moved) : Type 0 w
       → sideOf (buys side) (quoteIn b (head .index)) ≡ Level.Best price size → sideOf (buys side) (quoteIn (r .book) (head .index)) ≡ Level.Best price (size + volume)
   -- a message for one symbol changes nothing kept for another: orders, record, mark, number, name and scale; nor does a refusal
   pub others-unchanged : (index : ℕ) → ((m : List ℕ) → StandsAt s at m → NotFor index m) → symbolIn index (view (r .book)) ≡ symbolIn index (view b)
+  -- a record that has lost its mark does not get it back
+  pub mark-stays-lost : (index : ℕ) → volumeOf index (view b) .whole ≡ false → volumeOf index (view (r .book)) .whole ≡ false
 
 -- ---- of a run: each message in turn
 abbrev pub AllNotFor : ℕ → List (List ℕ) → Type 0
@@ -63,7 +69,10 @@ pub record OfRun (b : Book) (s : List ℕ) (from : ℕ) (r : Ran) : Type 0 where
   pub effects : Obeys (runOf (view b) s from) (r .book) (r .answer)
   -- the position is the start and the Msg Sizes passed
   pub position : r .at ≡ from + sumBy msgSize (walkOf s from .messages)
+  -- and the bytes there are why it stopped
+  pub stopped : reachOf (drop (r .at) s) ≡ refused (r .answer)
   pub others-unchanged : (index : ℕ) → AllNotFor index (walkOf s from .messages) → symbolIn index (view (r .book)) ≡ symbolIn index (view b)
+  pub mark-stays-lost : (index : ℕ) → volumeOf index (view b) .whole ≡ false → volumeOf index (view (r .book)) .whole ≡ false
 
 -- DEMAND 2, for every state that the calls can be given
 pub record Demand2 (b : Book) : Type 0 where

@@ -23,7 +23,7 @@ use Rattle.book.specs.declared.quote.Quote.{Quote}
 use Rattle.book.specs.declared.walk.Moved.{Moved}
 use Rattle.book.specs.declared.walk.Ran.{Ran}
 use Rattle.demands.specs.Reader.{pillar, Effect, Registered}
-use Rattle.demands.specs.ByteFeed.{ByteFeed, hears, sent, delivered, endToEnd, Moment, Complete, Applied, ClearsDelivered, actIn, feedOf}
+use Rattle.demands.specs.ByteFeed.{ByteFeed, begins, hears, loses, sent, delivered, endToEnd, Moment, Complete, Applied, ClearsDelivered, actIn, feedOf}
 
 -- ---- the states of a reader, by the promises of the calls that hand them back
 -- a new state with symbols registered, in any order and whatever registering answers
@@ -64,6 +64,12 @@ pub record Given (b c : Book) (f : ByteFeed) : Type 0 where
   pub applied : Applied (view b) f
   pub clears-delivered : ClearsDelivered f
 
+-- what is given of the feed, by calls: a reader in state b that is handed all of it, message by message, answers 0 to each (`applied-by-calls`)
+pub data AnswersZero (b : Book) : ByteFeed → Book → Type 0 where
+  nothing-yet : AnswersZero b begins b
+  to-heard : {f : ByteFeed} {c : Book} {s : List ℕ} {at : ℕ} {m : List ℕ} {r : Moved} → AnswersZero b f c → StandsAt s at m → Moves c s at r → r .answer ≡ 0 → AnswersZero b (hears f m) (r .book)
+  to-lost : {f : ByteFeed} {c : Book} {s : List ℕ} {at : ℕ} {m : List ℕ} {r : Moved} → AnswersZero b f c → StandsAt s at m → Moves c s at r → r .answer ≡ 0 → AnswersZero b (loses f m) (r .book)
+
 -- the contract of `quote` says that it hands back this
 abbrev pub quoteIn : Book → ℕ → Quote
 quoteIn b index = quoteOf index (view b)
@@ -90,7 +96,7 @@ module _ (Takes : Book → List (List ℕ) → Book → Type 0) (b c : Book) whe
     -- from that clear on, whatever was lost before it, until another loss: it again agrees with the first
     pub from-that-clear-on : (index : ℕ) {next : ℕ} {h : Feed Effect} → Since (NotLost index) (h ▷ heard (clear index next)) (feedOf f) → quoteIn second index ≡ quoteIn first index
     -- and what it answers to the message m that it hears next: 0 while it agrees, 7 to the first numbered one after a loss, then 8
-    pub answers : (m : List ℕ) → Given b c (hears f m) → stepOf (view second) (readOf m) .answer ≡ answered (phase (indexOf (actIn m)) (feedOf f)) (actIn m)
+    pub answers : {s : List ℕ} {at : ℕ} {m : List ℕ} {r : Moved} → Given b c (hears f m) → StandsAt s at m → Moves second s at r → r .answer ≡ answered (phase (indexOf (actIn m)) (feedOf f)) (actIn m)
 
   -- DEMAND 3
   abbrev pub Demand3 : Type 0

@@ -38,6 +38,10 @@ viewABCThenXYZ = registerOf viewABC other otherName scale .view
 abbrev pub viewXYZThenABC : View
 viewXYZThenABC = registerOf (registerOf newView other otherName scale .view) index name scale .view
 
+-- one add, heard
+abbrev pub oneAdd : ByteFeed
+oneAdd = hears begins (add 1 1001 buy 1234500 200)
+
 -- number 2 is lost, 3 shows it, a clear gives 9, and then 10 is lost
 abbrev pub withLosses : ByteFeed
 withLosses =

@@ -20,7 +20,7 @@ module _ (R : Rules) (D : Reader R) (s₀ t₀ : D .State) where
     first-quotes-the-book = λ i {f = f} g y. first-quotes-the-book R D s₀ (g .first-new) f (g .accepted) i y;
     after-a-loss = λ i g a. quotes-standing i g (after-loss a);
     refused-until-a-clear = λ i g u. quotes-standing i g (until-clear u);
-    from-that-clear-on = λ i g r. quotes-standing i g (none-lost (record { from = _; fresh = at-clear; since = r }));
+    from-that-clear-on = λ i g r. quotes-standing i g (none-lost (record { from = _; counts = at-clear; since = r }));
     by-phase = by-phase R D s₀ t₀;
     answers = answers R D s₀ t₀;
   }

@@ -36,14 +36,14 @@ module _ {E : Type 0} (i : ℕ) where
   stays-since p here e = e
   stays-since p (more {f = f} {it = it} r x) e = ap (λ (q : Phase E). moves i q f it) (stays-since p r e) ∙ allowed-stays p f it x
 
-  fresh-agrees : {g : Feed E} → CountsFrom i g → phase i g ≡ agrees
+  counts-agrees : {g : Feed E} → CountsFrom i g → phase i g ≡ agrees
   unfolding phase moves afterHearing
-  fresh-agrees at-start = refl
-  fresh-agrees at-clear = rw (eq-eqb i i refl)
+  counts-agrees at-start = refl
+  counts-agrees at-clear = rw (eq-eqb i i refl)
 
   none-lost-agrees : {f : Feed E} → NoneLost i f → phase i f ≡ agrees
   unfolding Allows
-  none-lost-agrees n = stays-since agrees (n .since) (fresh-agrees (n .fresh))
+  none-lost-agrees n = stays-since agrees (n .since) (counts-agrees (n .counts))
 
   at-loss : (h : Feed E) (m : Act E) → i ≡ indexOf m → phase i h ≡ agrees → phase i (h ▷ lost m) ≡ behind h
   unfolding phase moves afterLosing
@@ -71,7 +71,7 @@ module _ {E : Type 0} (i : ℕ) where
   -- an item that leaves the phase alone leaves the words alone
   stands-on : {f : Feed E} {p : Phase E} (it : Item E) → Stands i f p → Allows p it → Stands i (f ▷ it) p
   unfolding Allows
-  stands-on it (none-lost n) x = none-lost (record { from = n .from; fresh = n .fresh; since = more (n .since) x })
+  stands-on it (none-lost n) x = none-lost (record { from = n .from; counts = n .counts; since = more (n .since) x })
   stands-on it (after-loss a) x = after-loss (record { none-before = a .none-before; message = a .message; own = a .own; since = more (a .since) x })
   stands-on it (until-clear u) x =
       until-clear (record { before-loss = u .before-loss; before-next = u .before-next; loss = u .loss; number = u .number; effect = u .effect; since = more (u .since) x })
@@ -92,7 +92,7 @@ module _ {E : Type 0} (i : ℕ) where
 
   stands-heard : {f : Feed E} {p : Phase E} (m : Act E) → i ≡ indexOf m → Stands i f p → Stands i (f ▷ heard m) (afterHearing p m)
   unfolding afterHearing Allows NotLost NotCleared
-  stands-heard {f = f} (clear index next) e x = rw (← e) (none-lost (record { from = f ▷ heard (clear i next); fresh = at-clear; since = here }))
+  stands-heard {f = f} (clear index next) e x = rw (← e) (none-lost (record { from = f ▷ heard (clear i next); counts = at-clear; since = here }))
   stands-heard (numbered index number effect) e (none-lost n) = stands-on (heard (numbered index number effect)) (none-lost n) tt
   stands-heard {f = f} (numbered index number effect) e (after-loss {h = h} a) =
       rw (← e) (until-clear (record { before-loss = h; before-next = f; loss = a; number = number; effect = effect; since = here }))
@@ -111,7 +111,7 @@ module _ {E : Type 0} (i : ℕ) where
   -- and there is no moment besides
   pub every-moment : (f : Feed E) → Stands i f (phase i f)
   unfolding phase moves
-  every-moment start = none-lost (record { from = start; fresh = at-start; since = here })
+  every-moment start = none-lost (record { from = start; counts = at-start; since = here })
   every-moment (f ▷ heard m) =
       stands-cond (eqb i (indexOf m)) (λ q. stands-heard m (eqb-true i (indexOf m) q) (every-moment f))
       (λ q. stands-on (heard m) (every-moment f) (other-heard (phase i f) m (eqb-false i (indexOf m) q)))

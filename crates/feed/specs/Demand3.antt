@@ -36,7 +36,7 @@ module _ {E : Type 0} (i : ℕ) where
   -- Counted from a clear of the symbol or the start, none of its messages is lost. Any clear may be taken, so also the last one.
   pub record NoneLost (f : Feed E) : Type 0 where
     pub from : Feed E
-    pub fresh : CountsFrom from
+    pub counts : CountsFrom from
     pub since : Since NotLost from f
 
   -- After a loss: h is the moment just before the first lost message, and nothing of the symbol was heard since

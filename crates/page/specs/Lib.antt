@@ -3,3 +3,4 @@ pub mod Columns
 pub mod Held
 pub mod Printing
 pub mod Printout
+pub mod Marked

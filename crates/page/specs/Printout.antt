@@ -5,6 +5,7 @@ use mathlib.Core.Bool.{Bool, true, false, cond}
 use lib.Dec.{eqb}
 use Rattle.wire.specs.Outcome.{Outcome, done, refused}
 use Rattle.wire.specs.Reading.{Read}
+use Rattle.wire.specs.Writing.{Write}
 use Rattle.wire.specs.Message.{typeOf}
 use Rattle.wire.specs.declared.Message.{Message}
 use Rattle.book.specs.State.{view, symbolIn}
@@ -13,49 +14,52 @@ use Rattle.book.specs.Quote.{quoteOf}
 use Rattle.book.specs.declared.Book.{Book}
 use Rattle.book.specs.declared.quote.Level.{Level}
 use Rattle.book.specs.declared.quote.Quote.{Quote}
-use Rattle.page.specs.Columns.{Column, number, price, bytes, rendered, columnsOf}
-use Rattle.page.specs.Printing.{hasNoLine, told}
+use Rattle.page.specs.Columns.{Column, number, price, bytes, rendered}
+use Rattle.page.specs.Printing.{hasNoLine, laid, lineOf, told}
 
--- the letters R, E and Q
+-- a letter that tells what a line is
 abbrev pub letter : ℕ → Column
 letter b = bytes (b ∷ [])
 
-abbrev pub r : Column
-r = letter 82
+abbrev pub letterR : Column
+letterR = letter 82
 
-abbrev pub e : Column
-e = letter 69
+abbrev pub letterE : Column
+letterE = letter 69
 
-abbrev pub q : Column
-q = letter 81
+abbrev pub letterQ : Column
+letterQ = letter 81
 
 -- ---- a message that was passed over
 
 -- a refusal before the stop: `R,answer,place`
 abbrev pub refusal : ℕ → ℕ → List Column
-refusal answer place = r ∷ number answer ∷ number place ∷ []
+refusal answer place = letterR ∷ number answer ∷ number place ∷ []
 
--- the place is the line's sequence number, in 32 bits
+-- the place is the line's sequence number, which has 32 bits
+abbrev pub sequences : ℕ
+sequences = 4294967296
+
 abbrev pub sequenceOf : ℕ → ℕ
-sequenceOf place = place % 4294967296
+sequenceOf place = place % sequences
 
--- the line of a done 100 or 111, and nothing of another type
-abbrev pub lineIf : Bool → List ℕ → List ℕ
-lineIf true line = []
-lineIf false line = line
+-- the line of a done 100 or 111, by the line's own checks, and nothing of another type
+abbrev pub lineIf : Bool → Write → List ℕ → Write
+lineIf true line out = laid [] out
+lineIf false line out = line
 
-abbrev pub doneText : Book → Outcome Message → List ℕ → ℕ → ℕ → List ℕ
-doneText b (refused a) plain place second = []
-doneText b (done m) plain place second = lineIf (hasNoLine (typeOf m)) (rendered (columnsOf (told b m) m plain (sequenceOf place) second))
+abbrev pub doneOf : Book → Outcome Message → List ℕ → ℕ → ℕ → List ℕ → Write
+doneOf b (refused a) plain place second out = laid [] out
+doneOf b (done m) plain place second out = lineIf (hasNoLine (typeOf m)) (lineOf (told b m) m plain (sequenceOf place) second out) out
 
-unfoldable pub passedText : Book → Read → ℕ → ℕ → ℕ → List ℕ
-passedText b d answer place second = cond (eqb answer 0) (doneText b (d .outcome) (d .plain) place second) (rendered (refusal answer place))
+unfoldable pub passedOf : Book → Read → ℕ → ℕ → ℕ → List ℕ → Write
+passedOf b d answer place second out = cond (eqb answer 0) (doneOf b (d .outcome) (d .plain) place second out) (laid (rendered (refusal answer place)) out)
 
 -- ---- the end
 
 -- `E,answer`
 unfoldable pub endText : ℕ → List ℕ
-endText answer = rendered (e ∷ number answer ∷ [])
+endText answer = rendered (letterE ∷ number answer ∷ [])
 
 -- price and size, or two empty fields
 abbrev pub levelColumns : ℕ → Level → List Column
@@ -69,7 +73,7 @@ quoteColumns false scale x = number (x .answer) ∷ []
 
 -- `Q,` and these
 unfoldable pub quoteText : ℕ → Quote → List ℕ
-quoteText scale x = rendered (q ∷ quoteColumns (eqb (x .answer) 0) scale x)
+quoteText scale x = rendered (letterQ ∷ quoteColumns (eqb (x .answer) 0) scale x)
 
 -- of a book's symbol
 abbrev pub quoteTextOf : Book → ℕ → List ℕ

@@ -1,8 +1,8 @@
 // What the program prints of a message that was passed over, and at the end.
 use crate::Printed;
-use crate::lines::line_of;
 use crate::printing::emit;
 use crate::printing::has_no_line;
+use crate::printing::line;
 use crate::text::Line;
 use crate::text::blank;
 use crate::text::number_column;
@@ -19,7 +19,10 @@ ghost use Rattle.book.specs.State.{Wf};
 ghost use Rattle.page.specs.Columns.{further, rendered};
 ghost use Rattle.page.specs.Held.{held, Adds};
 ghost use Rattle.page.specs.Printing.{printed, laid};
-ghost use Rattle.page.specs.Printout.{refusal, passedText, endText, levelColumns, quoteText, quoteTextOf};
+ghost use Rattle.page.specs.Printout.{refusal, passedOf, endText, levelColumns, quoteText, quoteTextOf};
+
+// A line's sequence number has 32 bits.
+const SEQUENCES: u64 = 4294967296;
 
 // Of a message with its answer and its place in the file: the line of a done 100 or 111, `R,answer,place` of a refused one, nothing of any other.
 pub fn passed_text(
@@ -30,7 +33,8 @@ pub fn passed_text(
     second: u32,
     out: &mut [u8],
 ) -> Printed
-    ensures { λ r. ⌜ (Wf book → printed r (now (out .exit)) ≡ laid (passedText book (readOf (now (message .entry))) answer place second) (now (out .entry))) ⌝ }
+    ensures prints { λ r. ⌜ (Wf book → printed r (now (out .exit)) ≡ passedOf book (readOf (now (message .entry))) answer place second (now (out .entry))) ⌝ }
+    ensures refusals { λ r. ⌜ ((answer ≡ 0 → ⊥) → printed r (now (out .exit)) ≡ laid (rendered (refusal answer place)) (now (out .entry))) ⌝ }
 {
     if answer != 0 {
         return emit(refusal_line(answer, place), out);
@@ -44,11 +48,7 @@ pub fn passed_text(
         return emit(blank(), out);
     }
     let plain = d.plain;
-    let s = book.symbol(wire::index_of(m));
-    emit(
-        line_of(s, m, plain, (place % 4294967296) as u32, second),
-        out,
-    )
+    line(book, m, plain, (place % SEQUENCES) as u32, second, out)
 }
 
 // `E,answer`.
@@ -62,7 +62,7 @@ pub fn end_text(answer: u8, out: &mut [u8]) -> Printed
 
 // `Q,` with bid price, bid size, ask price, ask size, prices at the symbol's scale and none as empty fields; or with the number that refuses the quote.
 pub fn quote_text(book: Book, index: u32, out: &mut [u8]) -> Printed
-    ensures { λ r. ⌜ (Wf book → printed r (now (out .exit)) ≡ laid (quoteTextOf book index) (now (out .entry))) ⌝ }
+    ensures { λ r. ⌜ printed r (now (out .exit)) ≡ laid (quoteTextOf book index) (now (out .entry)) ⌝ }
 {
     let s = book.symbol(index);
     emit(quote_line(s.scale, book.quote(index)), out)

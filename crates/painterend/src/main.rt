@@ -162,10 +162,10 @@ fn all_parts(fd: i32, path: &[u8], book: Book) {
 }
 
 fn main() {
-    if os::arg_count() < 2 {
+    if os::arg_count() != 2 {
         io::write_all(
             STDERR_FILENO,
-            b"painterend: name a file of messages, as in: painterend FILE\n",
+            b"painterend: name one file of messages, as in: painterend FILE\n",
         );
         return;
     }

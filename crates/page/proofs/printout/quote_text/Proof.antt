@@ -25,10 +25,10 @@ same-length : tie.Need-same-length
 same-length c = search needs
 
 returns : tie.Need-returns
-returns c = λ w.
+returns c =
     let a = c .before .before .before .before .before .before .before .before .args in
     c .before .before .emit .ensures ∙ ap (λ (x : List ℕ). laid x (now (a .out)))
-    (c .before .before .before .before .quote-line .ensures ∙ (λ i. quoteText (c .before .before .before .before .before .before .symbol .ensures .obeys w i .scale) (c .before .before .before .before .before .quote .ensures i)))
+    (c .before .before .before .before .quote-line .ensures ∙ (λ i. quoteText (c .before .before .before .before .before .before .symbol .ensures .scale i) (c .before .before .before .before .before .quote .ensures i)))
 
 pub quote-text-spec : {M : Type 1} → statement M
 quote-text-spec =

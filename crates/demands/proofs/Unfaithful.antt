@@ -1,0 +1,57 @@
+-- Readers that agree with each other and not with the book do not meet demand 3: after one add the book has an order, and they show none.
+use mathlib.Core.Bool.{false}
+use mathlib.Core.List.{List}
+use mathlib.Core.Path.{_≡_, refl, sym, ap, _∙_}
+use Prim.Native.Nat.{ℕ}
+use native.Mathlib.Omega.{arith}
+use Rattle.wire.specs.Bytes.{value, littleEndian}
+use Rattle.wire.specs.Table.{shapeOf}
+use Rattle.wire.specs.Fields.{faultBy, faultOf}
+use Rattle.wire.specs.Reading.{reachBy, reachOf, readBy, readBody, readSized, readShape, readTyped, readReached, readOf}
+use Rattle.feed.specs.Book.{fitted, bookAfter, bookOf}
+use Rattle.feed.specs.Demand3.{here, more, at-start, NotLost, NoneLost}
+use Rattle.places.specs.Places.{first, fold, sumBy, insert, look}
+use Rattle.book.specs.State.{View, view, placeOf, symbolIn, vacancyOf}
+use Rattle.book.specs.Rules.{applyTo}
+use Rattle.book.specs.Registering.{nameBad, registerOf}
+use Rattle.book.specs.Step.{meant}
+use Rattle.book.specs.Quote.{bestStep, sharesAt, levelOf, noQuote, quotedIf, quoteOf}
+use Rattle.book.specs.declared.Book.{Book}
+use Rattle.book.specs.declared.quote.Level.{Level}
+use Rattle.book.specs.declared.quote.Quote.{Quote}
+use Rattle.demands.specs.Reader.{pillar, Registered}
+use Rattle.demands.specs.ByteFeed.{sent, delivered, feedOf}
+use Rattle.demands.specs.Demand3.{Demand3, quoteIn}
+use Rattle.demands.specs.Examples.{HasABC, viewABC, oneAdd}
+use Rattle.demands.specs.Messages.{index, shows, none, _at_}
+use Rattle.demands.proofs.Examples.{has-view, given-one-add}
+
+-- by computation: the book of the feed, and what is quoted before it
+record Computed : Type 0 where
+  pub book : quotedIf false (bookOf pillar index (feedOf oneAdd)) ≡ shows (200 at 1234500) none
+  pub before : quoteOf index viewABC ≡ shows none none
+  pub registered : Registered index viewABC
+  pub none-lost : NoneLost index (feedOf oneAdd)
+
+computed : Computed
+unfolding feedOf bookOf bookAfter fitted NotLost quoteOf levelOf bestStep sharesAt fold sumBy value littleEndian shapeOf faultBy faultOf reachBy reachOf readBy readBody readSized readShape readTyped readReached readOf first insert look placeOf symbolIn vacancyOf applyTo nameBad registerOf meant
+computed = record { book = refl; before = refl; registered = tt; none-lost = record { from = _; counts = at-start; since = more here tt } }
+
+module _ (Takes : Book → List (List ℕ) → Book → Type 0) {b c : Book} (demand : Demand3 Takes b c) (p : HasABC b) (q : HasABC c) where
+  -- whatever way a reader takes messages, one that meets the demand shows the add
+  pub shows-an-add : {first second : Book} → Takes b (sent oneAdd) first → Takes c (delivered oneAdd) second → quoteIn second index ≡ shows (200 at 1234500) none
+  shows-an-add all rest =
+      demand oneAdd _ _ (record { given = given-one-add p q; all = all; rest = rest }) .quotes-the-book index (rw (has-view p) (computed .registered)) (computed .none-lost)
+      ∙ computed .book
+
+  -- so it is none that calls the symbol stale
+  pub no-stale-readers : {first second : Book} → Takes b (sent oneAdd) first → Takes c (delivered oneAdd) second → quoteIn second index ≡ noQuote 8 → ⊥
+  no-stale-readers all rest stale = let z : _≡_ {A = ℕ} 8 0 = ap (λ (x : Quote). x .answer) (sym stale ∙ shows-an-add all rest) in omega (arith, z)
+
+-- and two idle readers that agree are none either
+pub no-idle-readers : {b c : Book} → HasABC b → HasABC c → Demand3 (λ s ms r. r ≡ s) b c → ⊥
+no-idle-readers {c = c} p q demand =
+    let shown : shows none none ≡ shows (200 at 1234500) none = sym (ap (quoteOf index) (has-view q) ∙ computed .before) ∙ shows-an-add (λ s ms r. r ≡ s) demand p q refl refl in
+    let bid : _≡_ {A = Level} none (200 at 1234500) = ap (λ (x : Quote). x .bid) shown in
+    let z : _≡_ {A = ℕ} 0 1 = cc in
+    omega arith
