@@ -14,7 +14,7 @@ use Rattle.book.specs.declared.symbols.Registered.{Registered}
 
 -- a name has 1 to 11 bytes, each 0x21 to 0x7E and no comma
 abbrev pub byteBad : ℕ → Bool
-byteBad c = cond (ltb c 33) true (cond (ltb 126 c) true (eqb c 44))
+byteBad c = cond (ltb c 0x21) true (cond (ltb 0x7E c) true (eqb c 0x2C))
 
 unfoldable pub nameBad : List ℕ → Bool
 nameBad name = cond (eqb (length name) 0) true (cond (ltb nameBytes (length name)) true (ltb (first byteBad name) (length name)))
@@ -32,8 +32,11 @@ registeredIf false false false v s = refusing v 12
 registeredIf false false true v s = put v (vacancyOf v) (record { symbol = s; answer = 0 })
 
 -- a price scale above 6, or a bad name
+abbrev pub mostScale : ℕ
+mostScale = 6
+
 abbrev pub bad : List ℕ → ℕ → Bool
-bad name scale = cond (ltb 6 scale) true (nameBad name)
+bad name scale = cond (ltb mostScale scale) true (nameBad name)
 
 unfoldable pub registerOf : View → ℕ → List ℕ → ℕ → Next
 registerOf v index name scale = registeredIf (bad name scale) (ltb (placeOf index v) symbols) (ltb (vacancyOf v) symbols) v (newSymbol index name scale)

@@ -7,6 +7,7 @@ use lib.Dec.{ltb, eqb}
 use lib.ListN.{set}
 use Rattle.feed.specs.Reader.{Ruling, unchanged, made-stale, applied, ruled, Act, clear, numbered, indexOf}
 use Rattle.wire.specs.Outcome.{Outcome, done, refused}
+use Rattle.wire.specs.Fields.{buyLetter}
 use Rattle.wire.specs.Reading.{Read}
 use Rattle.wire.specs.declared.Message.{Message}
 use Rattle.book.specs.State.{Symbol, View, placeOf, symbolIn}
@@ -65,7 +66,7 @@ actOn v a = actAt v (placeOf (indexOf a) v) (symbolIn (indexOf a) v) a
 
 -- ---- what each message means
 abbrev pub buys : ℕ → Bool
-buys side = eqb side 66
+buys side = eqb side buyLetter
 
 unfoldable pub meant : Message → Act Effect
 meant (Message.Add h n p v side) = numbered (h .index) (h .number) (Effect.Add n (buys side) p v)

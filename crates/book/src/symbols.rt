@@ -13,6 +13,9 @@ ghost use Rattle.book.specs.State.{nameBytes, paddedName, view, placeOf,
 ghost use Rattle.book.specs.Promises.{Steps};
 ghost use Rattle.book.specs.Registering.{byteBad, nameBad, registerOf, Told};
 
+// The largest price scale.
+const MOST_SCALE: u8 = 6;
+
 // What registering keeps of a symbol for the page: its name, of so many bytes and zeros after them, and the scale of its prices.
 pub struct Registered {
     pub answer: u8,
@@ -26,7 +29,7 @@ impl Book {
     pub fn register(mut self, index: u32, name: &[u8], scale: u8) -> Done
         ensures { λ r. ⌜ Steps self (registerOf (view self) index (now (name .entry)) scale) r ⌝ }
     {
-        if 6 < scale {
+        if MOST_SCALE < scale {
             return Done {
                 book: self,
                 answer: 13,

@@ -2,6 +2,7 @@
 use Prim.Native.Nat.{ℕ}
 use mathlib.Core.List.{List, [], _∷_, _++_}
 use Rattle.wire.specs.Bytes.{littleEndian}
+use Rattle.wire.specs.Fields.{buyLetter, sellLetter}
 use Rattle.book.specs.declared.quote.Level.{Level}
 use Rattle.book.specs.declared.quote.Quote.{Quote}
 
@@ -14,10 +15,10 @@ abbrev pub index : ℕ
 index = 7
 
 abbrev pub buy : ℕ
-buy = 66
+buy = buyLetter
 
 abbrev pub sell : ℕ
-sell = 83
+sell = sellLetter
 
 abbrev pub add : (number order side price volume : ℕ) → List ℕ
 add number order side price volume =

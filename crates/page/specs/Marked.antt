@@ -4,6 +4,7 @@ use Prim.Native.Nat.{ℕ, zero, suc, _+_}
 use Prim.Native.Char.{code}
 use Prim.Native.String.{String, len, charAt}
 use Rattle.wire.specs.Bytes.{paddedPlain}
+use Rattle.wire.specs.Fields.{buyLetter}
 use Rattle.wire.specs.declared.Message.{Message}
 use Rattle.wire.specs.declared.Message.the-variants.{Add}
 use Rattle.book.specs.declared.symbols.Registered.{Registered}
@@ -22,7 +23,7 @@ abc = record { answer = 0; name = 65 ∷ 66 ∷ 67 ∷ 0 ∷ 0 ∷ 0 ∷ 0 ∷ 0
 
 -- #3: add 1001 buy 1234500 x 200, at 125 nanoseconds
 abbrev pub add : Message
-add = Add (record { nanos = 125; index = 7; number = 3 }) 1001 1234500 200 66
+add = Add (record { nanos = 125; index = 7; number = 3 }) 1001 1234500 200 buyLetter
 
 abbrev pub firm : List ℕ
 firm = paddedPlain (ascii "FIRM1")

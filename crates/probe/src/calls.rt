@@ -9,6 +9,7 @@ use crate::timed::with_nanos;
 use book::Book;
 use wire::Answer;
 use wire::Message;
+use wire::PLAIN;
 use wire::Reach;
 ghost use mathlib.Core.Path.{_≡_};
 ghost use lib.ListN.{length};
@@ -129,7 +130,7 @@ fn write(c: &[u8]) {
     write_into(with_nanos(m, number32(c, 1)), plain, &mut out[..room]);
 }
 
-fn write_into(m: Message, plain: [u8; 53], out: &mut [u8]) {
+fn write_into(m: Message, plain: [u8; PLAIN], out: &mut [u8]) {
     let w = wire::encode(m, plain, out);
     shown::answer(wire::number_of_written(w));
     shown::position(wire::count_of_written(w));
@@ -159,7 +160,7 @@ fn line(b: Book, c: &[u8]) {
     );
 }
 
-fn line_into(b: Book, m: Message, plain: [u8; 53], sequence: u32, second: u32, out: &mut [u8]) {
+fn line_into(b: Book, m: Message, plain: [u8; PLAIN], sequence: u32, second: u32, out: &mut [u8]) {
     let p = page::line(b, m, plain, sequence, second, out);
     shown::answer(page::number_of_line(p));
     shown::position(page::count_of_line(p));

@@ -2,6 +2,7 @@
 use wire::Answer;
 use wire::Head;
 use wire::Message;
+use wire::PLAIN;
 
 pub(crate) fn byte_at(c: &[u8], at: usize) -> u8 {
     if at < c.len() { c[at] } else { 0 }
@@ -43,11 +44,11 @@ fn number64(c: &[u8], at: u8) -> u64 {
     join32(low, high)
 }
 
-pub(crate) fn plain_at(c: &[u8], at: u8) -> [u8; 53] {
+pub(crate) fn plain_at(c: &[u8], at: u8) -> [u8; PLAIN] {
     let base = at as usize;
-    let mut r = [0u8; 53];
+    let mut r = [0u8; PLAIN];
     let mut i = 0;
-    while i < 53 {
+    while i < PLAIN {
         r[i] = byte_at(c, base + i);
         i += 1;
     }

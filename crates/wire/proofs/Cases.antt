@@ -62,7 +62,7 @@ reached s n e = reached-by s n (ltb (length s) 4) (ltb (msgSize s) 4) (ltb (leng
 
 -- ---- reading
 module _ (s : List ℕ) where
-  pub read-unreached : (n : ℕ) → reachOf s ≡ refused n → readOf s ≡ reading.refuse n
+  pub read-unreached : (n : ℕ) → reachOf s ≡ refused n → readOf s ≡ reading.noMessage n
   unfolding readOf readReached
   read-unreached n e = ap (λ (x : Outcome ℕ). readReached x s) e
 
@@ -70,12 +70,12 @@ module _ (s : List ℕ) where
   unfolding readOf readReached
   read-reached size e = ap (λ (x : Outcome ℕ). readReached x s) e
 
-  pub read-unknown : (size : ℕ) → shapeOf (msgType s) ≡ Shape.Unknown → readTyped s size ≡ reading.refuse 3
+  pub read-unknown : (size : ℕ) → shapeOf (msgType s) ≡ Shape.Unknown → readTyped s size ≡ reading.noMessage 3
   unfolding readTyped readShape
   read-unknown size e = ap (λ (x : Shape). readShape x s size) e
 
   module _ (size : ℕ) (l : Layout) (known : shapeOf (msgType s) ≡ Shape.Known l) where
-    pub read-other-size : (size ≡ l .size → ⊥) → readTyped s size ≡ reading.refuse 2
+    pub read-other-size : (size ≡ l .size → ⊥) → readTyped s size ≡ reading.noMessage 2
     unfolding readTyped readShape readSized
     read-other-size h = ap (λ (x : Shape). readShape x s size) known ∙ rw (ne-eqb _ _ h)
 
@@ -83,7 +83,7 @@ module _ (s : List ℕ) where
     unfolding readTyped readShape readSized
     read-size h = ap (λ (x : Shape). readShape x s size) known ∙ rw (eq-eqb _ _ h)
 
-  pub read-bad-field : (l : Layout) (n : ℕ) → faultOf l (fieldsAt s l) ≡ Fault.At n → readBody s l ≡ reading.refuse 4
+  pub read-bad-field : (l : Layout) (n : ℕ) → faultOf l (fieldsAt s l) ≡ Fault.At n → readBody s l ≡ reading.noMessage 4
   unfolding readBody readBy
   read-bad-field l n e = ap (λ (f : Fault). readBy f s l) e
 

@@ -10,13 +10,13 @@ use Rattle.wire.specs.declared.fields.Fields.{Fields}
 use Rattle.wire.specs.declared.fields.Fault.{Fault}
 use Rattle.wire.specs.declared.fields.Fault.the-variants.{Nothing, At}
 
--- The columns follow one another, and none is wider than its field's type.
+-- The fields follow one another, and none is wider than its type.
 pub record Sane (l : Layout) : Type 0 where
   pub form₀ : 4 ≤ l .form
   pub form₁ : l .form ≤ 8
   pub order₀ : l .order ≡ l .form + 12
-  pub new₀ : l .order ≤ l .fresh
-  pub new₁ : l .fresh ≤ l .order + 8
+  pub fresh₀ : l .order ≤ l .fresh
+  pub fresh₁ : l .fresh ≤ l .order + 8
   pub id₀ : l .fresh ≤ l .id
   pub id₁ : l .id ≤ l .fresh + 8
   pub price₀ : l .id ≤ l .price
@@ -38,7 +38,7 @@ pub record Sane (l : Layout) : Type 0 where
   pub size₀ : l .pad ≤ l .size
   pub size₁ : l .size ≤ l .pad + 1
 
--- what stands in the columns; an empty column reads 0
+-- what stands in them; one that the type lacks reads 0
 abbrev pub fieldsAt : List ℕ → Layout → Fields
 fieldsAt s l = record {
   seconds = valueAt s 4 (l .form);
@@ -57,8 +57,19 @@ fieldsAt s l = record {
 
 -- ---- bad fields
 
+-- a second has so many nanoseconds
+abbrev pub nanosEach : ℕ
+nanosEach = 1000000000
+
+-- the letters of the sides, `B` and `S`
+abbrev pub buyLetter : ℕ
+buyLetter = 66
+
+abbrev pub sellLetter : ℕ
+sellLetter = 83
+
 abbrev pub nanosBad : ℕ → Bool
-nanosBad n = leb 1000000000 n
+nanosBad n = leb nanosEach n
 
 -- only where the type's volume must be positive
 abbrev pub volumeBad : Bool → ℕ → Bool
@@ -69,10 +80,10 @@ volumeBad true v = eqb v 0
 abbrev pub flagBad : ℕ → Bool
 flagBad x = ltb 1 x
 
--- only where the type has a side: `B` is 66, `S` is 83
+-- only where the type has a side
 abbrev pub sideBad : Bool → ℕ → Bool
 sideBad false x = false
-sideBad true x = cond (eqb x 66) false (not (eqb x 83))
+sideBad true x = cond (eqb x buyLetter) false (not (eqb x sellLetter))
 
 -- the first bad one of nanoseconds, volume, flag and side, which is the order of their offsets
 unfoldable pub faultBy : Bool → Bool → Bool → Bool → Layout → Fault
@@ -94,8 +105,8 @@ endsOf l =
 
 -- Msg Size, Msg Type, the fields, and zero in the gap
 abbrev pub valuesWith : ℕ → ℕ → ℕ → ℕ → ℕ → ℕ → ℕ → ℕ → ℕ → ℕ → ℕ → ℕ → ℕ → ℕ → List ℕ
-valuesWith size type seconds nanos index number order new-order id price volume flag side letter =
-    size ∷ type ∷ seconds ∷ nanos ∷ index ∷ number ∷ order ∷ new-order ∷ id ∷ price ∷ volume ∷ flag ∷ side ∷ letter ∷ 0 ∷ []
+valuesWith size type seconds nanos index number order fresh id price volume flag side letter =
+    size ∷ type ∷ seconds ∷ nanos ∷ index ∷ number ∷ order ∷ fresh ∷ id ∷ price ∷ volume ∷ flag ∷ side ∷ letter ∷ 0 ∷ []
 
 abbrev pub valuesOf : ℕ → ℕ → Fields → List ℕ
 valuesOf size type f =

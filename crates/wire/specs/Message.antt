@@ -31,13 +31,13 @@ messageOf Kind.Clear f = Clear (headOf f) (f .seconds)
 messageOf Kind.Status f = Status (headOf f) (f .seconds)
 
 abbrev pub fieldsWith : Head → ℕ → ℕ → ℕ → ℕ → ℕ → ℕ → ℕ → ℕ → ℕ → Fields
-fieldsWith h seconds order new-order id price volume flag side letter = record {
+fieldsWith h seconds order fresh id price volume flag side letter = record {
   seconds = seconds;
   nanos = h .nanos;
   index = h .index;
   number = h .number;
   order = order;
-  fresh = new-order;
+  fresh = fresh;
   id = id;
   price = price;
   volume = volume;

@@ -32,6 +32,10 @@ msgSize s = valueAt s 0 2
 abbrev pub msgType : List ℕ → ℕ
 msgType s = valueAt s 2 4
 
+-- Msg Size and Msg Type have four bytes
+abbrev pub leastSize : ℕ
+leastSize = 4
+
 -- are there fewer than four bytes, is Msg Size below 4, is it beyond the rest?
 unfoldable pub reachBy : Bool → Bool → Bool → ℕ → Outcome ℕ
 reachBy true below beyond size = refused 1
@@ -41,7 +45,7 @@ reachBy false false false size = done size
 
 -- the Msg Size of the message at the start of s
 unfoldable pub reachOf : List ℕ → Outcome ℕ
-reachOf s = reachBy (ltb (length s) 4) (ltb (msgSize s) 4) (ltb (length s) (msgSize s)) (msgSize s)
+reachOf s = reachBy (ltb (length s) leastSize) (ltb (msgSize s) leastSize) (ltb (length s) (msgSize s)) (msgSize s)
 
 -- ---- the message
 
@@ -62,15 +66,15 @@ abbrev pub decodedAs : Decoded → Read
 decodedAs d = record { outcome = answeredAs (d .answer); plain = d .plain }
 
 -- a refused read hands back no message, and zeros
-abbrev pub refuse : ℕ → Read
-refuse n = record { outcome = refused n; plain = replicate plainRoom 0 }
+abbrev pub noMessage : ℕ → Read
+noMessage n = record { outcome = refused n; plain = replicate plainRoom 0 }
 
 abbrev pub refusedRead : Answer → Decoded
 refusedRead a = record { answer = a; plain = replicate plainRoom 0 }
 
 -- the fields
 unfoldable pub readBy : Fault → List ℕ → Layout → Read
-readBy (Fault.At n) s l = refuse 4
+readBy (Fault.At n) s l = noMessage 4
 readBy Fault.Nothing s l = record { outcome = done (messageOf (l .kind) (fieldsAt s l)); plain = paddedPlain (slice (l .plain) (l .pad) s) }
 
 unfoldable pub readBody : List ℕ → Layout → Read
@@ -78,18 +82,18 @@ readBody s l = readBy (faultOf l (fieldsAt s l)) s l
 
 -- the type, then the size: is Msg Size the size of the type?
 unfoldable pub readSized : Bool → List ℕ → Layout → Read
-readSized false s l = refuse 2
+readSized false s l = noMessage 2
 readSized true s l = readBody s l
 
 unfoldable pub readShape : Shape → List ℕ → ℕ → Read
-readShape Shape.Unknown s size = refuse 3
+readShape Shape.Unknown s size = noMessage 3
 readShape (Shape.Known l) s size = readSized (eqb size (l .size)) s l
 
 unfoldable pub readTyped : List ℕ → ℕ → Read
 readTyped s size = readShape (shapeOf (msgType s)) s size
 
 unfoldable pub readReached : Outcome ℕ → List ℕ → Read
-readReached (refused n) s = refuse n
+readReached (refused n) s = noMessage n
 readReached (done size) s = readTyped s size
 
 -- the message at the start of s

@@ -10,62 +10,66 @@ use Rattle.wire.specs.declared.table.Shape.{Shape}
 use Rattle.wire.specs.declared.table.Shape.the-variants.{Known, Unknown}
 
 -- The further fields. Every type has those that it has in this order.
-pub data Column : Type 0 where
-  order new-order id price volume flag side letter gap plain pad : Column
+pub data FieldName : Type 0 where
+  order fresh id price volume flag side letter gap plain pad : FieldName
 
-abbrev pub place : Column → ℕ
-place order = 0
-place new-order = 1
-place id = 2
-place price = 3
-place volume = 4
-place flag = 5
-place side = 6
-place letter = 7
-place gap = 8
-place plain = 9
-place pad = 10
+-- its rank in that order
+abbrev pub rank : FieldName → ℕ
+rank order = 0
+rank fresh = 1
+rank id = 2
+rank price = 3
+rank volume = 4
+rank flag = 5
+rank side = 6
+rank letter = 7
+rank gap = 8
+rank plain = 9
+rank pad = 10
 
 -- the table's own names for them
-abbrev pub trade : Column
+abbrev pub new-order : FieldName
+new-order = fresh
+
+abbrev pub trade : FieldName
 trade = id
 
-abbrev pub cross : Column
+abbrev pub cross : FieldName
 cross = id
 
-abbrev pub position : Column
+abbrev pub position : FieldName
 position = flag
 
-abbrev pub printable : Column
+abbrev pub printable : FieldName
 printable = flag
 
-abbrev pub cross-type : Column
+abbrev pub cross-type : FieldName
 cross-type = letter
 
-abbrev pub indicator : Column
+abbrev pub indicator : FieldName
 indicator = letter
 
-abbrev pub firm : Column
+abbrev pub firm : FieldName
 firm = plain
 
-abbrev pub conditions : Column
+abbrev pub conditions : FieldName
 conditions = plain
 
-abbrev pub reserved : Column
+abbrev pub reserved : FieldName
 reserved = pad
 
 -- a 103 has its reserved byte before its conditions
-abbrev pub reserved-before : Column
+abbrev pub reserved-before : FieldName
 reserved-before = gap
 
 -- An entry of the table, offset and size
 pub record Entry : Type 0 where
-  pub column : Column
+  pub name : FieldName
   pub at : ℕ
   pub size : ℕ
 
-abbrev pub field : Column → ℕ → ℕ → Entry
-field c at size = record { column = c; at = at; size = size }
+abbrev pub field : FieldName → ℕ → ℕ → Entry
+field f at size = record { name = f; at = at; size = size }
 
 -- the forms, by where the nanoseconds stand
 abbrev pub formN : ℕ
@@ -114,7 +118,7 @@ table =
 
 abbrev pub tilesFrom : ℕ → ℕ → List Entry → ℕ → Bool
 tilesFrom p a [] size = eqb a size
-tilesFrom p a (e ∷ es) size = leb p (place (e .column)) && (eqb a (e .at) && tilesFrom (place (e .column) + 1) (a + e .size) es size)
+tilesFrom p a (e ∷ es) size = leb p (rank (e .name)) && (eqb a (e .at) && tilesFrom (rank (e .name) + 1) (a + e .size) es size)
 
 abbrev pub allTile : List Row → Bool
 allTile [] = true
@@ -123,15 +127,15 @@ allTile (r ∷ rs) = tilesFrom 0 (r .form + 12) (r .entries) (r .size) && allTil
 pub table-tiles : T (allTile table)
 table-tiles = tt
 
--- ---- the layout of a row: where each column starts; one that the row lacks is empty
+-- ---- the layout of a row: where each field starts; one that the row lacks is empty
 
-abbrev pub width : Column → List Entry → ℕ
-width c [] = 0
-width c (e ∷ es) = cond (eqb (place c) (place (e .column))) (e .size) (width c es)
+abbrev pub width : FieldName → List Entry → ℕ
+width f [] = 0
+width f (e ∷ es) = cond (eqb (rank f) (rank (e .name))) (e .size) (width f es)
 
-abbrev pub after : ℕ → List Column → List Entry → ℕ
-after a [] es = a
-after a (c ∷ cs) es = after (a + width c es) cs es
+abbrev pub startAfter : ℕ → List FieldName → List Entry → ℕ
+startAfter a [] es = a
+startAfter a (f ∷ fs) es = startAfter (a + width f es) fs es
 
 abbrev pub layoutOf : Row → Layout
 layoutOf r =
@@ -142,16 +146,16 @@ layoutOf r =
       size = r .size;
       form = r .form;
       order = a;
-      fresh = after a (order ∷ []) (r .entries);
-      id = after a (order ∷ new-order ∷ []) (r .entries);
-      price = after a (order ∷ new-order ∷ id ∷ []) (r .entries);
-      volume = after a (order ∷ new-order ∷ id ∷ price ∷ []) (r .entries);
-      flag = after a (order ∷ new-order ∷ id ∷ price ∷ volume ∷ []) (r .entries);
-      side = after a (order ∷ new-order ∷ id ∷ price ∷ volume ∷ flag ∷ []) (r .entries);
-      letter = after a (order ∷ new-order ∷ id ∷ price ∷ volume ∷ flag ∷ side ∷ []) (r .entries);
-      gap = after a (order ∷ new-order ∷ id ∷ price ∷ volume ∷ flag ∷ side ∷ letter ∷ []) (r .entries);
-      plain = after a (order ∷ new-order ∷ id ∷ price ∷ volume ∷ flag ∷ side ∷ letter ∷ gap ∷ []) (r .entries);
-      pad = after a (order ∷ new-order ∷ id ∷ price ∷ volume ∷ flag ∷ side ∷ letter ∷ gap ∷ plain ∷ []) (r .entries);
+      fresh = startAfter a (order ∷ []) (r .entries);
+      id = startAfter a (order ∷ fresh ∷ []) (r .entries);
+      price = startAfter a (order ∷ fresh ∷ id ∷ []) (r .entries);
+      volume = startAfter a (order ∷ fresh ∷ id ∷ price ∷ []) (r .entries);
+      flag = startAfter a (order ∷ fresh ∷ id ∷ price ∷ volume ∷ []) (r .entries);
+      side = startAfter a (order ∷ fresh ∷ id ∷ price ∷ volume ∷ flag ∷ []) (r .entries);
+      letter = startAfter a (order ∷ fresh ∷ id ∷ price ∷ volume ∷ flag ∷ side ∷ []) (r .entries);
+      gap = startAfter a (order ∷ fresh ∷ id ∷ price ∷ volume ∷ flag ∷ side ∷ letter ∷ []) (r .entries);
+      plain = startAfter a (order ∷ fresh ∷ id ∷ price ∷ volume ∷ flag ∷ side ∷ letter ∷ gap ∷ []) (r .entries);
+      pad = startAfter a (order ∷ fresh ∷ id ∷ price ∷ volume ∷ flag ∷ side ∷ letter ∷ gap ∷ plain ∷ []) (r .entries);
     }
 
 abbrev pub find : ℕ → List Row → Shape

@@ -1,5 +1,6 @@
 // Numbers and byte arrays in a slice, at any width.
 use crate::PLAIN;
+use crate::fields::NUMBERS;
 ghost use mathlib.Core.Path.{_≡_};
 ghost use Prim.Native.Nat.{_+_, _-_, _^_, _≤_, _<_};
 ghost use lib.ListN.{length, take};
@@ -78,13 +79,13 @@ pub(crate) fn put_value(out: &mut [u8], a: usize, e: usize, v: u64)
 }
 
 // Writes numbers one after the other: each starts where the one before it ended, the first at 0.
-pub(crate) fn put_values(out: &mut [u8], ends: [usize; 15], v: [u64; 15])
+pub(crate) fn put_values(out: &mut [u8], ends: [usize; NUMBERS], v: [u64; NUMBERS])
     requires { ⌜ Rising 0 ends (length (now out)) ⌝ }
     ensures { λ _. ⌜ now (out .exit) ≡ stored 0 ends v (now (out .entry)) ⌝ }
 {
     let mut a = 0;
     let mut i = 0;
-    while i < 15 {
+    while i < NUMBERS {
         let e = ends[i];
         put_value(out, a, e, v[i]);
         a = e;

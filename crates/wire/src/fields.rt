@@ -1,4 +1,6 @@
 // The fields of a message of any type, and the rules that they keep.
+use crate::BUY;
+use crate::SELL;
 use crate::bytes::get;
 use crate::bytes::get8;
 use crate::bytes::get32;
@@ -7,6 +9,12 @@ ghost use mathlib.Core.Path.{_≡_};
 ghost use Prim.Native.Nat.{_≤_};
 ghost use lib.ListN.{length};
 ghost use Rattle.wire.specs.Fields.{Sane, fieldsAt, sideBad, volumeBad, faultOf, endsOf, valuesOf, valuesWith};
+
+// A second has so many nanoseconds.
+const NANOS: u32 = 1000000000;
+
+// The numbers that the writer lays out: Msg Size, Msg Type, the fields and the reserved byte before a byte array.
+pub(crate) const NUMBERS: usize = 15;
 
 // The fields of all the types, in the order of their offsets. Those that a type lacks are 0.
 pub(crate) struct Fields {
@@ -64,7 +72,7 @@ pub(crate) fn fields_at(s: &[u8], l: Layout) -> Fields
 pub(crate) fn fault_of(l: Layout, f: Fields) -> Fault
     ensures { λ r. ⌜ r ≡ faultOf l f ⌝ }
 {
-    if 1000000000 <= f.nanos {
+    if NANOS <= f.nanos {
         return Fault::At(l.form);
     }
     if volume_bad(l.positive, f.volume) {
@@ -90,17 +98,17 @@ fn side_bad(there: bool, side: u8) -> bool
     ensures { λ r. ⌜ r ≡ sideBad there side ⌝ }
 {
     if there {
-        if side == b'B' {
+        if side == BUY {
             return false;
         }
-        side != b'S'
+        side != SELL
     } else {
         false
     }
 }
 
 // Where the numbers of a layout end.
-pub(crate) fn ends_of(l: Layout) -> [usize; 15]
+pub(crate) fn ends_of(l: Layout) -> [usize; NUMBERS]
     requires { ⌜ Sane l ⌝ }
     ensures { λ r. ⌜ r ≡ endsOf l ⌝ }
 {
@@ -125,7 +133,7 @@ pub(crate) fn ends_of(l: Layout) -> [usize; 15]
 }
 
 // What stands there: the size, the type, the fields, and zero in the gap.
-pub(crate) fn values_of(size: usize, number: u16, f: Fields) -> [u64; 15]
+pub(crate) fn values_of(size: usize, number: u16, f: Fields) -> [u64; NUMBERS]
     ensures { λ r. ⌜ r ≡ valuesOf size number f ⌝ }
 {
     widened(
@@ -161,7 +169,7 @@ fn widened(
     flag: u8,
     side: u8,
     letter: u8,
-) -> [u64; 15]
+) -> [u64; NUMBERS]
     ensures { λ r. ⌜ r ≡ valuesWith size number seconds nanos index symbol order fresh id price volume flag side letter ⌝ }
 {
     [

@@ -23,6 +23,11 @@ ghost use Rattle.wire.specs.Writing.{wroteAs, countOf};
 // The longest byte array of a message: the plain bytes of a 105.
 pub const PLAIN: usize = 53;
 
+// The letters of the sides.
+pub const BUY: u8 = b'B';
+
+pub const SELL: u8 = b'S';
+
 // What every message has. In a symbol clear the number is the next symbol number.
 pub struct Head {
     pub nanos: u32,
