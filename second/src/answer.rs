@@ -13,7 +13,7 @@ pub enum Refusal {
     Field = 4,
     /// 5: the symbol is not registered.
     Symbol = 5,
-    /// 6: the number was used before.
+    /// 6: the number is below the expected one.
     Low = 6,
     /// 7: numbers are missing.
     Gap = 7,
@@ -36,7 +36,7 @@ pub enum Refusal {
 }
 
 /// The number that a call answers.
-pub fn number<T>(result: &Result<T, Refusal>) -> u8 {
+pub(crate) fn number<T>(result: &Result<T, Refusal>) -> u8 {
     match result {
         Ok(_) => 0,
         Err(refusal) => *refusal as u8,

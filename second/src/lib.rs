@@ -3,14 +3,14 @@
 
 pub mod answer;
 pub mod book;
-pub mod cursor;
+mod cursor;
 pub mod line;
 pub mod make;
 pub mod named;
 pub mod probe;
 pub mod program;
 pub mod reader;
-pub mod record;
-pub mod symbol;
+mod record;
+mod symbol;
 pub mod vectors;
 pub mod wire;

@@ -6,8 +6,8 @@ use crate::answer::Refusal;
 use crate::reader::Reader;
 use crate::wire::{Body, Message};
 
-/// The first second that no day has.
-const DAY: u32 = 86_400;
+/// The last second of a day.
+pub(crate) const LAST_SECOND: u32 = 86_399;
 
 /// Writes the line at the start of `out` and hands back its length, the line feed counted.
 /// The checks: type (3), fields (4), symbol (5), second (14), room (15).
@@ -37,7 +37,7 @@ pub fn line_text(
     }
     message.check()?;
     let symbol = reader.symbol(message.index).ok_or(Refusal::Symbol)?;
-    if second >= DAY {
+    if second > LAST_SECOND {
         return Err(Refusal::Second);
     }
     let mut text = format!(

@@ -10,9 +10,9 @@ use crate::reader::Reader;
 use crate::wire::{read, write, Message};
 
 /// A longer file is refused.
-pub const LARGEST_FILE: usize = 1_048_576;
+pub(crate) const LARGEST_FILE: usize = 1_048_576;
 /// A larger buffer is refused.
-pub const LARGEST_ROOM: usize = 256;
+pub(crate) const LARGEST_ROOM: usize = 256;
 
 /// One line for each call; `?` and the end where the file cannot be understood.
 pub fn probe(calls: &[u8]) -> String {

@@ -10,12 +10,13 @@ use crate::wire::{Body, Message};
 
 /// A part of the file, what was left of the part before it counted in. The largest message,
 /// 65,535 bytes, fits.
-const PART: usize = 65_536;
+pub(crate) const PART: usize = 65_536;
 
 const INDEX: u32 = 7;
 const SCALE: u8 = 4;
 const NAME: &[u8] = b"ABC";
-const SECOND: u32 = 34_200;
+/// The second of the day that every line has.
+pub(crate) const SECOND_OF_DAY: u32 = 34_200;
 
 /// Reads the file in parts and prints its lines, its refusals, the end and the last quote.
 pub fn painterend(input: &mut impl Read, output: &mut impl Write) -> io::Result<()> {
@@ -94,7 +95,7 @@ fn print_line(
     if !matches!(message.body, Body::Add { .. } | Body::Cross { .. }) {
         return Ok(());
     }
-    match line_text(reader, message, place as u32, SECOND) {
+    match line_text(reader, message, place as u32, SECOND_OF_DAY) {
         Ok(text) => output.write_all(&text),
         Err(refusal) => Err(io::Error::other(format!(
             "a done message has no line: {refusal:?}"

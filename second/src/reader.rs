@@ -6,11 +6,11 @@ use crate::symbol::Symbol;
 use crate::wire::{read, Message};
 
 /// A reader has room for this many symbols.
-pub const SYMBOLS: usize = 8;
+pub(crate) const SYMBOLS: usize = 8;
 /// The largest price scale.
-pub const LARGEST_SCALE: u8 = 6;
+const LARGEST_SCALE: u8 = 6;
 /// The longest name.
-pub const LONGEST_NAME: usize = 11;
+const LONGEST_NAME: usize = 11;
 
 #[derive(Clone, Default)]
 pub struct Reader {
@@ -37,7 +37,7 @@ impl Reader {
         Ok(())
     }
 
-    pub fn symbol(&self, index: u32) -> Option<&Symbol> {
+    pub(crate) fn symbol(&self, index: u32) -> Option<&Symbol> {
         self.symbols.iter().find(|symbol| symbol.index == index)
     }
 

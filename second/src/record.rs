@@ -68,9 +68,3 @@ impl Record {
         self.trades.iter().position(|trade| trade.number == number)
     }
 }
-
-impl Default for Record {
-    fn default() -> Self {
-        Record::new()
-    }
-}

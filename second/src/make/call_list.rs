@@ -19,10 +19,6 @@ impl CallList {
         self.bytes.len()
     }
 
-    pub fn is_empty(&self) -> bool {
-        self.bytes.is_empty()
-    }
-
     pub fn into_bytes(self) -> Vec<u8> {
         self.bytes
     }
@@ -74,7 +70,7 @@ impl CallList {
         self.positioned(b'D', at, bytes);
     }
 
-    /// A run over whole messages.
+    /// A run over these messages.
     pub fn run_messages(&mut self, messages: &[Message]) {
         self.run(0, &feed(messages));
     }

@@ -1,7 +1,9 @@
 //! Damage to one message: bits, sizes, types and fields.
 
 use super::random::Random;
-use crate::wire::message::{size_of_type, ADD, DELETE, EXECUTE, MODIFY, REPLACE, TYPES};
+use crate::wire::message::{
+    size_of_type, ADD, DELETE, EXECUTE, MODIFY, NANOSECONDS_PER_SECOND, REPLACE, TYPES,
+};
 use crate::wire::write::to_bytes;
 use crate::wire::{Body, Message};
 
@@ -95,7 +97,7 @@ fn set_type(bytes: &mut [u8], random: &mut Random) {
 }
 
 /// A field that the type's rules forbid; nanoseconds where it has no other.
-pub fn with_bad_field(mut message: Message, random: &mut Random) -> Message {
+fn with_bad_field(mut message: Message, random: &mut Random) -> Message {
     let bad_side = random.pick(&[0, b'A', b'b', b's', b' ', 0xFF]);
     let bad_flag = random.pick(&[2, 3, 0x30, 0x31, 0x80, 0xFF]);
     let first = random.one_in(2);
@@ -138,7 +140,12 @@ pub fn with_bad_field(mut message: Message, random: &mut Random) -> Message {
 }
 
 pub fn bad_nanoseconds(random: &mut Random) -> u32 {
-    random.pick(&[1_000_000_000, 1_000_000_001, 0x8000_0000, u32::MAX])
+    random.pick(&[
+        NANOSECONDS_PER_SECOND,
+        NANOSECONDS_PER_SECOND + 1,
+        0x8000_0000,
+        u32::MAX,
+    ])
 }
 
 /// A frame of random bytes. Half of them have the size of a known type.

@@ -2,7 +2,8 @@
 
 use super::messages::{BUY, SELL};
 use super::random::Random;
-use crate::wire::message::SECOND;
+use crate::line::LAST_SECOND;
+use crate::wire::message::NANOSECONDS_PER_SECOND;
 
 const EDGES: [u32; 8] = [
     0,
@@ -105,15 +106,15 @@ impl Draw {
         if self.at_edge() {
             return self.random.pick(&EDGES);
         }
-        1_747_000_000 + self.random.u32_below(86_400)
+        1_747_000_000 + self.random.u32_below(LAST_SECOND + 1)
     }
 
     pub fn nanoseconds(&mut self) -> u32 {
         match self.random.below(6) {
             0 => 0,
-            1 => SECOND - 1,
+            1 => NANOSECONDS_PER_SECOND - 1,
             2 => self.random.u32_below(1_000),
-            _ => self.random.u32_below(SECOND),
+            _ => self.random.u32_below(NANOSECONDS_PER_SECOND),
         }
     }
 

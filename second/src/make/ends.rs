@@ -1,9 +1,7 @@
 //! Messages laid across the ends of parts, and the ends of files.
 
 use super::random::Random;
-
-/// The length of a part of a file.
-const PART: usize = 65_536;
+use crate::program::PART;
 
 /// A message of unknown type. Most often it ends a little before or behind the end of a part.
 pub fn filler(random: &mut Random, position: usize) -> Vec<u8> {

@@ -1,6 +1,6 @@
 //! Makers of test input: messages, feeds, lists of calls.
 
-pub mod call_list;
+pub(crate) mod call_list;
 mod call_maker;
 pub mod calls;
 mod damage;

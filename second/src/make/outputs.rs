@@ -2,13 +2,12 @@
 
 use super::call_maker::Maker;
 use super::damage::{bad_nanoseconds, damaged, sent};
+use crate::line::LAST_SECOND;
 use crate::probe::LARGEST_ROOM;
-use crate::wire::message::SECOND;
+use crate::program::SECOND_OF_DAY;
+use crate::wire::message::NANOSECONDS_PER_SECOND;
 use crate::wire::write::to_bytes;
 use crate::wire::Message;
-
-/// The last second of a day.
-const LAST_SECOND: u32 = 86_399;
 
 pub fn push_write(maker: &mut Maker, faults: bool) {
     let index = maker.source.index();
@@ -34,7 +33,9 @@ pub fn push_line(maker: &mut Maker, faults: bool) {
             .random()
             .pick(&[LAST_SECOND + 1, LAST_SECOND + 2, u32::MAX])
     } else {
-        maker.random().pick(&[0, 34_200, LAST_SECOND, within])
+        maker
+            .random()
+            .pick(&[0, SECOND_OF_DAY, LAST_SECOND, within])
     };
     let good = Message {
         nanoseconds: 0,
@@ -68,8 +69,10 @@ fn nanoseconds(maker: &mut Maker, faults: bool) -> u32 {
     if faults && maker.random().one_in(3) {
         return bad_nanoseconds(maker.random());
     }
-    let within = maker.random().u32_below(SECOND);
-    maker.random().pick(&[0, 1, SECOND - 1, within])
+    let within = maker.random().u32_below(NANOSECONDS_PER_SECOND);
+    maker
+        .random()
+        .pick(&[0, 1, NANOSECONDS_PER_SECOND - 1, within])
 }
 
 /// Exact room, one too few, none, or ample.

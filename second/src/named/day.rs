@@ -5,7 +5,7 @@ use crate::make::messages::*;
 use crate::wire::Message;
 
 /// Cases C to F, one message each.
-pub fn until_f() -> Vec<Message> {
+fn until_f() -> Vec<Message> {
     vec![
         add(1, 1001, BUY, 1_234_500, 200),
         add(2, 1002, BUY, 1_234_500, 50),

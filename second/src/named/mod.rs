@@ -39,10 +39,6 @@ impl Cases {
         cases
     }
 
-    pub fn files(&self) -> &[(String, Vec<u8>)] {
-        &self.files
-    }
-
     pub fn write_into(&self, folder: &Path) -> io::Result<()> {
         std::fs::create_dir_all(folder)?;
         for (name, bytes) in &self.files {
@@ -98,7 +94,7 @@ mod tests {
     #[test]
     fn every_name_is_used_once() {
         let cases = Cases::all();
-        let names: HashSet<_> = cases.files().iter().map(|(name, _)| name).collect();
-        assert_eq!(names.len(), cases.files().len());
+        let names: HashSet<_> = cases.files.iter().map(|(name, _)| name).collect();
+        assert_eq!(names.len(), cases.files.len());
     }
 }

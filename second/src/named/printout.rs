@@ -88,11 +88,11 @@ fn ends(cases: &mut Cases) {
         ]
         .concat(),
     );
-    let whole = one_add();
+    let uncut = one_add();
     for length in [1, 3, 4, 20, 38] {
         cases.feed_bytes(
             &format!("cut-after-{length}-bytes"),
-            whole[..length].to_vec(),
+            uncut[..length].to_vec(),
         );
     }
 }

@@ -24,7 +24,7 @@ pub const TYPES: [u16; 13] = [
 ];
 
 /// Nanoseconds of a message are below this.
-pub const SECOND: u32 = 1_000_000_000;
+pub const NANOSECONDS_PER_SECOND: u32 = 1_000_000_000;
 
 /// One message. `number` is the symbol number, in a clear the next one.
 #[derive(Clone, Copy, PartialEq, Eq, Debug)]
@@ -164,7 +164,7 @@ impl Message {
             } => is_flag(printable) && volume != 0,
             _ => true,
         };
-        if good && self.nanoseconds < SECOND {
+        if good && self.nanoseconds < NANOSECONDS_PER_SECOND {
             Ok(())
         } else {
             Err(Refusal::Field)

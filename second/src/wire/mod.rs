@@ -1,10 +1,11 @@
 //! Messages and their bytes: document 01, "Message layouts".
 
-pub mod bytes;
-pub mod message;
-pub mod read;
-pub mod write;
+pub(crate) mod bytes;
+pub(crate) mod message;
+mod read;
+pub(crate) mod write;
 
 pub use message::{Body, Message};
-pub use read::{extent, read};
+pub(crate) use read::extent;
+pub use read::read;
 pub use write::write;

@@ -6,7 +6,7 @@ use super::message::*;
 use crate::answer::Refusal;
 
 /// The least Msg Size: itself and the type.
-pub const HEADER: usize = 4;
+const HEADER: usize = 4;
 
 /// How many bytes the message at `at` takes.
 pub fn extent(stream: &[u8], at: usize) -> Result<usize, Refusal> {
