@@ -165,7 +165,7 @@ fn main() {
     if os::arg_count() != 2 {
         io::write_all(
             STDERR_FILENO,
-            b"painterend: name one file of messages, as in: painterend FILE\n",
+            b"painterend: name a file of messages, as in: painterend FILE\n",
         );
         return;
     }
