@@ -1,8 +1,7 @@
 -- A feed with its losses, the two readers of it, and what demand 3 takes as given.
 use Prim.Native.Nat.{ℕ}
 use mathlib.Core.Bool.{cond}
-use mathlib.Core.List.{List, [], _∷_, _++_}
-use mathlib.Core.Logic.{_↔_, _≢_}
+use mathlib.Core.Logic.{_↔_}
 use mathlib.Core.Path.{_≡_}
 use lib.Dec.{eqb}
 use Rattle.feed.specs.Reader.{Rules, Act, clear, numbered, indexOf, New, Reader, Registered}
@@ -55,28 +54,7 @@ module _ {E : Type 0} where
   ClearsHeard (f ▷ lost (clear index next)) = ⊥
   ClearsHeard (f ▷ lost (numbered index number effect)) = ClearsHeard f
 
-  -- The messages of the feed in order: all of them, and those that the second reader is given
-  unfoldable pub sent : Feed E → List (Act E)
-  sent start = []
-  sent (f ▷ heard m) = sent f ++ m ∷ []
-  sent (f ▷ lost m) = sent f ++ m ∷ []
-
-  unfoldable pub delivered : Feed E → List (Act E)
-  delivered start = []
-  delivered (f ▷ heard m) = delivered f ++ m ∷ []
-  delivered (f ▷ lost m) = delivered f
-
-  -- none of these messages is for the symbol
-  unfoldable pub NoneFor : ℕ → List (Act E) → Type 0
-  NoneFor i [] = Unit {0}
-  NoneFor i (m ∷ ms) = (i ≢ indexOf m) × NoneFor i ms
-
 module _ (R : Rules) (D : Reader R) where
-  -- a reader after the messages of a list
-  unfoldable pub runs : D .State → List (Act (R .Effect)) → D .State
-  runs s [] = s
-  runs s (m ∷ ms) = runs (D .step s m) ms
-
   -- the first reader, which receives all of the feed
   unfoldable pub first : D .State → Feed (R .Effect) → D .State
   first s₀ start = s₀
