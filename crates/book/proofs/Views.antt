@@ -1,5 +1,5 @@
 -- The view is a table of the eight places, so what stands at a place of it is what the state holds there, and a change at one place is seen at that place alone.
-use mathlib.Core.Bool.{Bool, true, false, cond}
+use mathlib.Core.Bool.{Bool, true, false, cond, false≢true}
 use mathlib.Core.Option.{Option, none, some}
 use mathlib.Core.Path.{_≡_, refl, sym, ap, _∙_}
 use Prim.Native.Nat.{ℕ, _<_, _≤_}
@@ -63,7 +63,7 @@ pub record RegisteredAt (b : Book) (index k : ℕ) : Type 0 where
 
 seen-named : (index : ℕ) (u : Bool) (s : Symbol) → hasIndex index (seen u s) ≡ true → u ≡ true
 seen-named index true s e = refl
-seen-named index false s e = absurd (let z : _≡_ {A = ℕ} 0 1 = cc in omega arith)
+seen-named index false s e = absurd (false≢true e)
 
 pub registered-at : (b : Book) (index k : ℕ) → k ≡ placeOf index (view b) → k < symbols → RegisteredAt b index k
 unfolding symbolIn placeOf

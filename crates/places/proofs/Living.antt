@@ -7,10 +7,13 @@ use Prim.Native.Nat.{ℕ, zero, suc, _+_, _-_, _<_, _≤_}
 use native.Mathlib.Nat.{zero-add, le-of-suc-le-suc, not-suc-le-zero}
 use native.Mathlib.Omega.{arith}
 use borrow.Author.Tests.{eq-eqb, eqb-true}
+use lib.Dec.{eqb}
 use lib.ListN.{length, getD, set, length-set}
 use lib.Seq.{set-set, set-getD, getD-set-same}
-use Rattle.places.specs.Places.{sumBy, one, count, has, insert, remove, look, inOrder, Single}
-use Rattle.places.proofs.Sums.{sum-set}
+use Rattle.places.specs.Places.{part, sumBy, one, count, has, insert, remove, look, inOrder, Single}
+use Rattle.places.proofs.Sums.{sum-set, sum-alike}
+use Rattle.places.proofs.Parts.{part-fits}
+use Rattle.places.proofs.Searching.{counted-le}
 use Rattle.places.proofs.Sorted.{insert-comm, remove-insert, look-insert, look-other, sum-insert, length-insert}
 
 module _ {A : Type 0} (key : A → ℕ) where
@@ -67,6 +70,18 @@ module _ {A : Type 0} (key : A → ℕ) where
         go : length (inOrder key live l) ≡ count live l → (s : Bool) → live x ≡ s → length (inOrder key live (x ∷ l)) ≡ one (live x) + count live l
         go ih true q = rw (q, length-insert) (omega arith)
         go ih false q = rw q (omega arith)
+
+    -- in a part no more are live than it has places
+    pub in-order-fits : (n k : ℕ) (l : List A) → length (inOrder key live (part n k l)) ≤ n
+    in-order-fits n k l = omega (arith, length-in-order (part n k l), counted-le live (part n k l), part-fits n k l)
+
+    -- as many have the number in the order as are live with it
+    pub count-in-order : (n : ℕ) (l : List A) → count (λ a. eqb (key a) n) (inOrder key live l) ≡ count (has key live n) l
+    count-in-order n l = sum-in-order (λ a. one (eqb (key a) n)) l ∙ sum-alike _ _ (λ a. go (live a) (eqb (key a) n)) l
+      where
+        go : (s t : Bool) → cond s (one t) 0 ≡ one (cond s t false)
+        go true t = refl
+        go false t = refl
 
     -- ---- the laws that the effects cite. d is the empty element
     module _ (d : A) (dead : live d ≡ false) where
