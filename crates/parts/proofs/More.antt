@@ -2,7 +2,7 @@
 use mathlib.Core.Bool.{Bool, true, false}
 use mathlib.Core.List.{List, _++_}
 use mathlib.Core.Logic.{_⊎_, inl, inr, ⊎-elim}
-use mathlib.Core.Path.{_≡_, refl, ap}
+use mathlib.Core.Path.{_≡_, refl, sym, ap}
 use Prim.Native.Nat.{ℕ, _<_, _≤_}
 use native.Mathlib.Omega.{arith}
 use lib.Dec.{ltb}
@@ -12,7 +12,7 @@ use borrow.Author.Tests.{ltb-true, ltb-false}
 use Rattle.wire.specs.Bytes.{value}
 use Rattle.wire.specs.Outcome.{refused}
 use Rattle.wire.specs.Reading.{msgSize, reachBy, reachOf}
-use Rattle.wire.proofs.Cases.{reach-small}
+use Rattle.wire.proofs.Cases.{done-is-not-refused, reach-small}
 
 -- ---- why a message is not reached: too few bytes, or a Msg Size below 4
 pub record Small (s : List ℕ) (a : ℕ) : Type 0 where
@@ -26,7 +26,7 @@ unfolding reachBy
 unreached-by s a true below beyond p q e = inl (cc)
 unreached-by s a false true beyond p q e = inr (record { two = cc; there = omega (arith, ltb-false (length s) 4 p); below = ltb-true (msgSize s) 4 q })
 unreached-by s a false false true p q e = inl (cc)
-unreached-by s a false false false p q e = let z : _≡_ {A = ℕ} 0 1 = cc in absurd (omega arith)
+unreached-by s a false false false p q e = absurd (done-is-not-refused (sym e))
 
 pub unreached : (s : List ℕ) (a : ℕ) → reachOf s ≡ refused a → (a ≡ 1) ⊎ Small s a
 unfolding reachOf

@@ -1,4 +1,4 @@
--- The cases of reading and writing, each as one law. The crates above cite these.
+-- The tests of reading and writing decide the clause, so each case is one law. The crates above cite these.
 use mathlib.Core.Path.{_≡_, refl, ap, _∙_}
 use mathlib.Core.List.{List, _++_}
 use mathlib.Core.Bool.{Bool, true, false}
@@ -21,6 +21,10 @@ use Rattle.wire.specs.Reading as reading
 use Rattle.wire.specs.Reading.{msgSize, msgType, reachBy, reachOf, readBy, readBody, readSized, readShape, readTyped, readReached, readOf}
 use Rattle.wire.specs.Writing as writing
 use Rattle.wire.specs.Writing.{imageOf, writeSized, writeBy, writeShape, writeOf}
+
+-- what is done is not refused
+pub done-is-not-refused : {A : Type 0} {a : A} {n : ℕ} → refused n ≡ done a → ⊥
+done-is-not-refused e = let z : _≡_ {A = ℕ} 0 1 = cc in omega arith
 
 -- ---- how far a message reaches
 module _ (s : List ℕ) where
@@ -49,9 +53,9 @@ pub record Reached (s : List ℕ) (n : ℕ) : Type 0 where
 reached-by : (s : List ℕ) (n : ℕ) (short below beyond : Bool) → ltb (msgSize s) 4 ≡ below → ltb (length s) (msgSize s) ≡ beyond →
     reachBy short below beyond (msgSize s) ≡ done n → Reached s n
 unfolding reachBy
-reached-by s n true below beyond p q e = let z : _≡_ {A = ℕ} 0 1 = cc in absurd (omega arith)
-reached-by s n false true beyond p q e = let z : _≡_ {A = ℕ} 0 1 = cc in absurd (omega arith)
-reached-by s n false false true p q e = let z : _≡_ {A = ℕ} 0 1 = cc in absurd (omega arith)
+reached-by s n true below beyond p q e = absurd (done-is-not-refused e)
+reached-by s n false true beyond p q e = absurd (done-is-not-refused e)
+reached-by s n false false true p q e = absurd (done-is-not-refused e)
 reached-by s n false false false p q e =
     let same : msgSize s ≡ n = cc in
     record { size = same; least = omega (arith, ltb-false (msgSize s) 4 p); there = omega (arith, ltb-false (length s) (msgSize s) q) }
