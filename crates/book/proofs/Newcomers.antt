@@ -21,7 +21,7 @@ unfolding symbolIn placeOf first
 new-unregistered b f index = rw (f .new-view)
 
 -- ---- registering that is done
-pub record Admits (v : View) (index : ℕ) (s : Symbol) (next : View) : Type 0 where
+record Admits (v : View) (index : ℕ) (s : Symbol) (next : View) : Type 0 where
   pub unknown : symbols ≤ placeOf index v
   pub within : vacancyOf v < symbols
   pub next-view : next ≡ set v (vacancyOf v) (some s)
@@ -32,7 +32,7 @@ admitted false true r v index s p q e = absurd (omega (arith, e))
 admitted false false false v index s p q e = absurd (omega (arith, e))
 admitted false false true v index s p q e = record { unknown = ltb-false _ _ p; within = ltb-true _ _ q; next-view = refl }
 
-pub admits : (v : View) (index : ℕ) (name : List ℕ) (scale : ℕ) → registerOf v index name scale .answer ≡ 0 → Admits v index (newSymbol index name scale) (registerOf v index name scale .view)
+admits : (v : View) (index : ℕ) (name : List ℕ) (scale : ℕ) → registerOf v index name scale .answer ≡ 0 → Admits v index (newSymbol index name scale) (registerOf v index name scale .view)
 unfolding registerOf
 admits v index name scale e = admitted (bad name scale) (ltb (placeOf index v) symbols) (ltb (vacancyOf v) symbols) v index (newSymbol index name scale) refl refl e
 

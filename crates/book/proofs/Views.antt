@@ -3,7 +3,6 @@ use mathlib.Core.Bool.{Bool, true, false, cond, false≢true}
 use mathlib.Core.Option.{Option, none, some}
 use mathlib.Core.Path.{_≡_, refl, sym, ap, _∙_}
 use Prim.Native.Nat.{ℕ, _<_, _≤_}
-use native.Mathlib.Omega.{arith}
 use borrow.Author.Tests.{eqb-true, eqb-false}
 use lib.Dec.{eqb}
 use lib.ListN.{length, getD, set, List·getD-eq-default}
@@ -82,11 +81,11 @@ pub record ButAt (k : ℕ) (b r : Book) : Type 0 where
   pub trades : (m : ℕ) → (m ≡ k → ⊥) → tradesIn r m ≡ tradesIn b m
 
 module _ (b r : Book) (k : ℕ) (in-range : k < symbols) (apart : ButAt k b r) where
-  pub view-but-one : view r ≡ set (view b) k (seen (headAt r k .used) (symbolAt r k))
+  view-but-one : view r ≡ set (view b) k (seen (headAt r k .used) (symbolAt r k))
   unfolding view
   view-but-one = tabulate-but-one symbols _ _ k in-range (λ m h ne. rw (apart .heads m ne, apart .orders m ne, apart .trades m ne))
 
-  pub wf-but-one : Wf b → Sound (headAt r k) (ordersIn r k) (tradesIn r k) → Wf r
+  wf-but-one : Wf b → Sound (headAt r k) (ordersIn r k) (tradesIn r k) → Wf r
   wf-but-one w s = record { sound = λ m h. go m h (eqb m k) refl }
     where
       go : (m : ℕ) → m < symbols → (t : Bool) → eqb m k ≡ t → Sound (headAt r m) (ordersIn r m) (tradesIn r m)

@@ -3,7 +3,7 @@ use mathlib.Core.Bool.{Bool, true, false}
 use mathlib.Core.List.{List, [], _∷_, _++_, append-assoc, append-nil, flatten}
 use mathlib.Core.Logic.{⊎-elim}
 use mathlib.Core.Path.{_≡_, refl, sym, ap, _∙_}
-use Prim.Native.Nat.{ℕ, _+_}
+use Prim.Native.Nat.{ℕ}
 use native.Mathlib.Nat.{zero-add, add-zero, add-assoc}
 use native.Mathlib.Omega.{arith}
 use lib.Dec.{eqb}
@@ -41,7 +41,7 @@ module _ (b : List ℕ) where
       ∙ (λ i. record { messages = take n a ∷ (w .messages ++ v .messages); at = sym (add-assoc n (w .at) (v .at)) i; answer = v .answer }))
 
 -- the walk over a file is the walk over its first part, and then that over what is left, with the rest of the file behind it
-pub parts-are-the-file : (a b : List ℕ) → walkOf (a ++ b) 0 ≡ onward (walkOf a 0) (walkOf (leftOf a ++ b) 0)
+parts-are-the-file : (a b : List ℕ) → walkOf (a ++ b) 0 ≡ onward (walkOf a 0) (walkOf (leftOf a ++ b) 0)
 parts-are-the-file a b = by-messages (InTwo b) (in-two-stops b) (in-two-goes b) a
 
 -- at a Msg Size below 4 the walk over the file ends too
