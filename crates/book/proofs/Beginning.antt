@@ -2,9 +2,9 @@
 use mathlib.Core.Path.{refl}
 use Prim.Native.Nat.{ℕ, _*_}
 use native.Mathlib.Omega.{arith}
-use lib.ListN.{replicate}
+use lib.ListN.{replicate, getD-replicate}
 use Rattle.places.specs.Places.{tabulate, has}
-use Rattle.places.proofs.Parts.{part-replicated, replicated-at}
+use Rattle.places.proofs.Parts.{part-replicated}
 use Rattle.places.proofs.Emptied.{nothing-live, nothing-counted}
 use Rattle.book.specs.State.{symbols, ordersEach, tradesEach, noOrder, noTrade, vacant, nobody, orderNumber, orderLive, tradeNumber, tradeLive, ordersIn, tradesIn, view, paddedName, Sound, Fresh}
 use Rattle.book.specs.declared.Book.{Book}
@@ -25,4 +25,4 @@ new-sound k = record {
 
 pub fresh : Fresh new
 unfolding view tabulate
-fresh = record { heads = refl; orders = refl; trades = refl; wf = record { sound = λ k h. rw (replicated-at vacant symbols k nobody h) (new-sound k) }; new-view = refl }
+fresh = record { heads = refl; orders = refl; trades = refl; wf = record { sound = λ k h. rw (getD-replicate symbols k vacant nobody h) (new-sound k) }; new-view = refl }

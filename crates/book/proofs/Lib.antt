@@ -17,6 +17,5 @@ pub mod Marks
 pub mod Refusals
 pub mod Answers
 pub mod Positions
-pub mod Parts
 pub mod Reaching
 pub mod Newcomers

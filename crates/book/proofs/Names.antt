@@ -17,7 +17,7 @@ pub length-padded : (name : List ℕ) → length (paddedName name) ≡ nameBytes
 unfolding paddedName
 length-padded name = length-tabulate nameBytes _
 
-pub padded-at : (name : List ℕ) (i : ℕ) → i < nameBytes → getD (paddedName name) i 0 ≡ getD name i 0
+padded-at : (name : List ℕ) (i : ℕ) → i < nameBytes → getD (paddedName name) i 0 ≡ getD name i 0
 unfolding paddedName
 padded-at name i h = getD-tabulate nameBytes _ i 0 h
 
@@ -28,7 +28,7 @@ take-padded name h =
     (λ i g. let below : i < length name = (rw e at g) in getD-take (length name) (paddedName name) i 0 below ∙ padded-at name i (omega arith))
 
 -- eleven bytes that are the name's, and zero where it has none, are the padded name
-pub is-padded : (name a : List ℕ) → length a ≡ nameBytes → ((i : ℕ) → i < nameBytes → getD a i 0 ≡ getD name i 0) → a ≡ paddedName name
+is-padded : (name a : List ℕ) → length a ≡ nameBytes → ((i : ℕ) → i < nameBytes → getD a i 0 ≡ getD name i 0) → a ≡ paddedName name
 unfolding paddedName
 is-padded name a e p = is-tabulated nameBytes _ a 0 e p
 

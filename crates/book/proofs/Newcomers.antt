@@ -1,31 +1,27 @@
 -- A new symbol takes an empty place, so its own index is found there and every other one where it was.
-use mathlib.Core.Bool.{Bool, true, false, cond}
-use mathlib.Core.List.{List, [], _∷_}
+use mathlib.Core.Bool.{Bool, true, false, false≢true}
+use mathlib.Core.List.{List}
 use mathlib.Core.Option.{Option, none, some}
-use mathlib.Core.Path.{_≡_, refl, sym, ap}
-use Prim.Native.Nat.{ℕ, zero, suc, _<_, _≤_}
+use mathlib.Core.Path.{_≡_, refl, sym}
+use Prim.Native.Nat.{ℕ, _<_, _≤_}
 use native.Mathlib.Omega.{arith}
-use native.Mathlib.Nat.{not-suc-le-zero, le-of-suc-le-suc}
 use borrow.Author.Tests.{eq-eqb, ne-eqb, ltb-true, ltb-false}
 use lib.Dec.{ltb}
-use lib.ListN.{length, getD, set, replicate}
+use lib.ListN.{length, getD, set}
 use lib.Seq.{getD-set-same, getD-set-other}
 use Rattle.places.specs.Places.{first}
-use Rattle.places.proofs.Searching.{first-passes, first-set}
+use Rattle.places.proofs.Searching.{first-passes, first-set, first-new}
 use Rattle.book.specs.State.{symbols, Symbol, View, hasIndex, isVacant, placeOf, symbolIn, vacancyOf, view, Fresh}
 use Rattle.book.specs.Registering.{newSymbol, registeredIf, bad, registerOf}
 use Rattle.book.specs.declared.Book.{Book}
 
 -- ---- a new state has no symbol
-pub new-view : (b : Book) → Fresh b → view b ≡ replicate symbols none
-new-view b f = f .new-view
-
 pub new-unregistered : (b : Book) → Fresh b → (index : ℕ) → symbolIn index (view b) ≡ none
 unfolding symbolIn placeOf first
 new-unregistered b f index = rw (f .new-view)
 
 -- ---- registering that is done
-pub record Admits (v : View) (index : ℕ) (s : Symbol) (next : View) : Type 0 where
+record Admits (v : View) (index : ℕ) (s : Symbol) (next : View) : Type 0 where
   pub unknown : symbols ≤ placeOf index v
   pub within : vacancyOf v < symbols
   pub next-view : next ≡ set v (vacancyOf v) (some s)
@@ -36,24 +32,13 @@ admitted false true r v index s p q e = absurd (omega (arith, e))
 admitted false false false v index s p q e = absurd (omega (arith, e))
 admitted false false true v index s p q e = record { unknown = ltb-false _ _ p; within = ltb-true _ _ q; next-view = refl }
 
-pub admits : (v : View) (index : ℕ) (name : List ℕ) (scale : ℕ) → registerOf v index name scale .answer ≡ 0 → Admits v index (newSymbol index name scale) (registerOf v index name scale .view)
+admits : (v : View) (index : ℕ) (name : List ℕ) (scale : ℕ) → registerOf v index name scale .answer ≡ 0 → Admits v index (newSymbol index name scale) (registerOf v index name scale .view)
 unfolding registerOf
 admits v index name scale e = admitted (bad name scale) (ltb (placeOf index v) symbols) (ltb (vacancyOf v) symbols) v index (newSymbol index name scale) refl refl e
 
--- where none passed, what passes is found where it was put
-first-new : {A : Type 0} (p : A → Bool) (l : List A) (k : ℕ) (a : A) → k < length l → p a ≡ true → length l ≤ first p l → first p (set l k a) ≡ k
-unfolding first
-first-new p [] k a h e n = absurd (not-suc-le-zero h)
-first-new p (x ∷ l) zero a h e n = rw e
-first-new p (x ∷ l) (suc k) a h e n = go (λ g. first-new p l k a (le-of-suc-le-suc h) e g) (p x) refl
-  where
-    go : (length l ≤ first p l → first p (set l k a) ≡ k) → (t : Bool) → p x ≡ t → cond (p x) 0 (suc (first p (set l k a))) ≡ suc k
-    go ih true q = absurd (not-suc-le-zero (rw q at n))
-    go ih false q = rw q (ap suc (ih (le-of-suc-le-suc (rw q at n))))
-
 is-none : (x : Option Symbol) → isVacant x ≡ true → x ≡ none
 is-none none e = refl
-is-none (some s) e = absurd (let z : _≡_ {A = ℕ} 0 1 = cc in omega arith)
+is-none (some s) e = absurd (false≢true e)
 
 module _ (v : View) (eight : length v ≡ symbols) (index : ℕ) (name : List ℕ) (scale : ℕ) (done : registerOf v index name scale .answer ≡ 0) where
   abbrev s : Symbol
@@ -85,6 +70,4 @@ module _ (v : View) (eight : length v ≡ symbols) (index : ℕ) (name : List �
     where
       elsewhere : (j : ℕ) → first (hasIndex j) v ≡ k → ⊥
       elsewhere j e =
-          let p = first-passes (hasIndex j) v none (rw e inside) in
-          let q : _≡_ {A = Bool} false true = (rw (e, empty-there) at p) in
-          let z : _≡_ {A = ℕ} 0 1 = cc in omega arith
+          false≢true (rw (e, empty-there) at (first-passes (hasIndex j) v none (rw e inside)))

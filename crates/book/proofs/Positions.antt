@@ -4,21 +4,15 @@ use mathlib.Core.Path.{_≡_, refl, sym, ap, _∙_}
 use Prim.Native.Nat.{ℕ, zero, suc, _+_, _≤_, _<_}
 use native.Mathlib.Omega.{arith}
 use native.Mathlib.Nat.{not-suc-le-zero}
-use lib.ListN.{length, take, drop, length-drop}
-use lib.Seq.{take-take}
-use Rattle.wire.specs.Bytes.{value}
+use lib.ListN.{length, drop, length-drop}
 use Rattle.wire.specs.Outcome.{Outcome, done, refused}
 use Rattle.wire.specs.Reading.{msgSize, reachOf}
-use Rattle.wire.proofs.Cases.{reached, reach-short}
+use Rattle.wire.proofs.Cases.{reached, reach-short, own-size}
 use Rattle.places.specs.Places.{sumBy}
 use Rattle.book.specs.Walk.{landing, walkBy, walkFor, walkOf, Moves, Runs}
 use Rattle.book.specs.declared.Book.{Book}
 use Rattle.book.specs.declared.walk.Moved.{Moved}
 use Rattle.book.specs.declared.walk.Ran.{Ran}
-
--- a message has the Msg Size that stands in the stream
-own-size : (s : List ℕ) (n : ℕ) → reachOf s ≡ done n → msgSize (take n s) ≡ n
-own-size s n e = ap value (take-take 2 n s (omega (arith, reached s n e .least))) ∙ reached s n e .size
 
 -- ---- one message moves by its Msg Size
 pub moved-by-size : (b : Book) (s : List ℕ) (at n : ℕ) (r : Moved) → Moves b s at r → reachOf (drop at s) ≡ done n → r .at ≡ at + msgSize (drop at s)

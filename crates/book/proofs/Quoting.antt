@@ -31,11 +31,11 @@ best-comm buy a b y = go (counts buy a) (counts buy b) refl refl
     go false true e f = simp (e, f)
     go false false e f = simp (e, f)
 
-pub best-view : (buy : Bool) (l : List Order) → bestOf buy (inOrder orderNumber orderLive l) ≡ bestOf buy l
+best-view : (buy : Bool) (l : List Order) → bestOf buy (inOrder orderNumber orderLive l) ≡ bestOf buy l
 unfolding bestStep
 best-view buy l = fold-in-order (bestStep buy) noBest orderNumber (best-comm buy) orderLive (λ a y e. rw e) l
 
-pub shares-view : (buy : Bool) (p : ℕ) (l : List Order) → sumBy (sharesAt buy p) (inOrder orderNumber orderLive l) ≡ sumBy (sharesAt buy p) l
+shares-view : (buy : Bool) (p : ℕ) (l : List Order) → sumBy (sharesAt buy p) (inOrder orderNumber orderLive l) ≡ sumBy (sharesAt buy p) l
 unfolding sharesAt
 shares-view buy p l =
     sum-fold (sharesAt buy p) (inOrder orderNumber orderLive l)

@@ -1,10 +1,9 @@
 -- Registering refuses in document 01's order; a new symbol takes the first empty place, which Wf says holds nothing.
-use mathlib.Core.Bool.{Bool, true, false, cond}
+use mathlib.Core.Bool.{Bool, true, false, cond, true≢false, false≢true}
 use mathlib.Core.List.{List}
 use mathlib.Core.Option.{none}
 use mathlib.Core.Path.{_≡_, refl, sym, ap, _∙_}
 use Prim.Native.Nat.{ℕ, _<_, _≤_}
-use native.Mathlib.Omega.{arith}
 use borrow.Author.Tests.{lt-ltb, le-ltb, ltb-false}
 use lib.Dec.{ltb, eqb}
 use lib.ListN.{length, getD}
@@ -52,8 +51,8 @@ unfolding nameBad
 name-short name = go (eqb (length name) 0) (ltb nameBytes (length name)) refl
   where
     go : (t u : Bool) → ltb nameBytes (length name) ≡ u → cond t true (cond u true (ltb (first byteBad name) (length name))) ≡ false → length name ≤ nameBytes
-    go true u p e = absurd (let z : _≡_ {A = ℕ} 0 1 = cc in omega arith)
-    go false true p e = absurd (let z : _≡_ {A = ℕ} 0 1 = cc in omega arith)
+    go true u p e = absurd (true≢false e)
+    go false true p e = absurd (true≢false e)
     go false false p e = ltb-false nameBytes (length name) p
 
 -- ---- the new symbol's head
@@ -62,7 +61,7 @@ newHead index name scale = record { used = true; index = index; name = paddedNam
 
 seen-vacant : (u : Bool) (s : Symbol) → isVacant (seen u s) ≡ true → u ≡ false
 seen-vacant false s e = refl
-seen-vacant true s e = absurd (let z : _≡_ {A = ℕ} 0 1 = cc in omega arith)
+seen-vacant true s e = absurd (false≢true e)
 
 module _ (b : Book) (index : ℕ) (name : List ℕ) (scale k : ℕ) (is : k ≡ vacancyOf (view b)) (in-range : k < symbols) (eight : length (b .heads) ≡ symbols) (short : length name ≤ nameBytes) (w : Wf b) where
   vacant-there : headAt b k .used ≡ false

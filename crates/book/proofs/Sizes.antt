@@ -1,7 +1,8 @@
--- How long the arrays of a book are: owning one tells.
+-- How long the arrays of a book are: owning one tells. So each symbol's part lies within them.
 use mathlib.Core.Path.{_≡_, sym, _∙_}
 use mathlib.Core.List.{List}
-use Prim.Native.Nat.{_*_}
+use Prim.Native.Nat.{ℕ, _+_, _*_, _≤_, _<_}
+use native.Mathlib.Omega.{arith}
 use lib.ListN.{length, length-map}
 use mir.Val.{Val}
 use denote.Laws.{Is}
@@ -19,3 +20,10 @@ module _ (b : Book) (vs : List Val) (g : Is (row the-type) b vs) where
 
   pub trades-size : length (b .trades) ≡ symbols * tradesEach
   trades-size = sym (length-map (b .trades) _) ∙ g .1 .1 .1 .1 .0 .1 .0 .1
+
+  -- the part at place k
+  pub orders-reach : (k : ℕ) → k < symbols → k * ordersEach + ordersEach ≤ length (b .orders)
+  orders-reach k h = omega (arith, orders-size)
+
+  pub trades-reach : (k : ℕ) → k < symbols → k * tradesEach + tradesEach ≤ length (b .trades)
+  trades-reach k h = omega (arith, trades-size)

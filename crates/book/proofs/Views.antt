@@ -1,9 +1,8 @@
 -- The view is a table of the eight places, so what stands at a place of it is what the state holds there, and a change at one place is seen at that place alone.
-use mathlib.Core.Bool.{Bool, true, false, cond}
+use mathlib.Core.Bool.{Bool, true, false, cond, false≢true}
 use mathlib.Core.Option.{Option, none, some}
 use mathlib.Core.Path.{_≡_, refl, sym, ap, _∙_}
 use Prim.Native.Nat.{ℕ, _<_, _≤_}
-use native.Mathlib.Omega.{arith}
 use borrow.Author.Tests.{eqb-true, eqb-false}
 use lib.Dec.{eqb}
 use lib.ListN.{length, getD, set, List·getD-eq-default}
@@ -63,7 +62,7 @@ pub record RegisteredAt (b : Book) (index k : ℕ) : Type 0 where
 
 seen-named : (index : ℕ) (u : Bool) (s : Symbol) → hasIndex index (seen u s) ≡ true → u ≡ true
 seen-named index true s e = refl
-seen-named index false s e = absurd (let z : _≡_ {A = ℕ} 0 1 = cc in omega arith)
+seen-named index false s e = absurd (false≢true e)
 
 pub registered-at : (b : Book) (index k : ℕ) → k ≡ placeOf index (view b) → k < symbols → RegisteredAt b index k
 unfolding symbolIn placeOf
@@ -82,11 +81,11 @@ pub record ButAt (k : ℕ) (b r : Book) : Type 0 where
   pub trades : (m : ℕ) → (m ≡ k → ⊥) → tradesIn r m ≡ tradesIn b m
 
 module _ (b r : Book) (k : ℕ) (in-range : k < symbols) (apart : ButAt k b r) where
-  pub view-but-one : view r ≡ set (view b) k (seen (headAt r k .used) (symbolAt r k))
+  view-but-one : view r ≡ set (view b) k (seen (headAt r k .used) (symbolAt r k))
   unfolding view
   view-but-one = tabulate-but-one symbols _ _ k in-range (λ m h ne. rw (apart .heads m ne, apart .orders m ne, apart .trades m ne))
 
-  pub wf-but-one : Wf b → Sound (headAt r k) (ordersIn r k) (tradesIn r k) → Wf r
+  wf-but-one : Wf b → Sound (headAt r k) (ordersIn r k) (tradesIn r k) → Wf r
   wf-but-one w s = record { sound = λ m h. go m h (eqb m k) refl }
     where
       go : (m : ℕ) → m < symbols → (t : Bool) → eqb m k ≡ t → Sound (headAt r m) (ordersIn r m) (tradesIn r m)

@@ -1,6 +1,6 @@
 -- A move goes by the Msg Size, within the bytes, so a walk has messages enough to spare; the run's loop has walked some of it and has the rest to go.
-use mathlib.Core.Bool.{Bool, true, false}
-use mathlib.Core.List.{List}
+use mathlib.Core.Bool.{true, false, true≢false, false≢true}
+use mathlib.Core.List.{List, [], _∷_, _++_}
 use mathlib.Core.Path.{_≡_, refl, sym, ap, _∙_}
 use Prim.Native.Nat.{ℕ, zero, suc, _+_, _<_, _≤_}
 use native.Mathlib.Omega.{arith}
@@ -10,7 +10,7 @@ use Rattle.wire.specs.Outcome.{Outcome, done, refused, numberOf}
 use Rattle.wire.specs.Reading.{reachOf, readOf, decodedAs}
 use Rattle.wire.specs.declared.Decoded.{Decoded}
 use Rattle.wire.proofs.Cases.{reached}
-use Rattle.book.specs.State.{view, Wf}
+use Rattle.book.specs.State.{View, view, Wf}
 use Rattle.book.specs.Step.{stepOf}
 use Rattle.book.specs.Promises.{Steps}
 use Rattle.book.specs.Walk.{landing, stopping, moveOf, walkFor, walkOf, stepsOf, runOf, Moves, Runs}
@@ -19,6 +19,9 @@ use Rattle.book.specs.declared.Done.{Done}
 use Rattle.book.specs.declared.walk.Moved.{Moved}
 
 -- ---- one message
+pub move-within : (s : List ℕ) (at n : ℕ) → reachOf (drop at s) ≡ done n → at + n ≤ length s
+move-within s at n e = omega (arith, reached (drop at s) n e .least, reached (drop at s) n e .there, length-drop at s)
+
 module _ (b : Book) (s : List ℕ) (at : ℕ) where
   -- a stop leaves all as it was
   pub move-stops : (a : ℕ) → reachOf (drop at s) ≡ refused a → Moves b s at (record { book = b; at = at; answer = a; stops = true })
@@ -31,21 +34,23 @@ module _ (b : Book) (s : List ℕ) (at : ℕ) where
     obeys = λ w. record { wf = w; next-view = rw e; answer = rw e };
   }
 
-  module _ (n : ℕ) (e : reachOf (drop at s) ≡ done n) where
-    pub move-within : at + n ≤ length s
-    move-within = omega (arith, reached (drop at s) n e .least, reached (drop at s) n e .there, length-drop at s)
+  pub move-goes : (n : ℕ) → reachOf (drop at s) ≡ done n → (d : Decoded) (r : Done) → decodedAs d ≡ readOf (take n (drop at s)) → Steps b (stepOf (view b) (decodedAs d)) r → Moves b s at (record { book = r .book; at = at + n; answer = r .answer; stops = false })
+  unfolding moveOf
+  move-goes n e d r q p = record {
+    at = rw e;
+    stops = rw e;
+    stopped = λ t. absurd (false≢true t);
+    kept = p .kept;
+    obeys = λ w. rw (e, ← q) (p .obeys w);
+  }
 
-    pub move-goes : (d : Decoded) (r : Done) → decodedAs d ≡ readOf (take n (drop at s)) → Steps b (stepOf (view b) (decodedAs d)) r → Moves b s at (record { book = r .book; at = at + n; answer = r .answer; stops = false })
-    unfolding moveOf
-    move-goes d r q p = record {
-      at = rw e;
-      stops = rw e;
-      stopped = λ t. absurd (let z : _≡_ {A = ℕ} 0 1 = cc in omega arith);
-      kept = p .kept;
-      obeys = λ w. rw (e, ← q) (p .obeys w);
-    }
+-- ---- the run. Steps over two lists, one behind the other, are the steps over both
+pub steps-join : (v : View) (ms ns : List (List ℕ)) → stepsOf v (ms ++ ns) ≡ stepsOf (stepsOf v ms) ns
+unfolding stepsOf
+steps-join v [] ns = refl
+steps-join v (m ∷ ms) ns = steps-join (stepOf v (readOf m) .view) ms ns
 
--- ---- the run: from here on there is so much of the walk to go
+-- from here on there is so much of the walk to go
 pub record Left (s : List ℕ) (from : ℕ) (b : Book) (at : ℕ) (c : Book) : Type 0 where
   pub fuel : ℕ
   pub enough : length s < at + fuel
@@ -61,7 +66,7 @@ pub left-all : (s : List ℕ) (from : ℕ) (b : Book) → Left s from b from b
 unfolding walkOf
 left-all s from b = record { fuel = suc (length s); enough = omega arith; some = omega arith; same-end = refl; same-answer = refl; passed = omega arith; still = λ e. refl; sound = λ w. w; same-view = λ w. refl }
 
-module _ (s : List ℕ) (from : ℕ) (b : Book) (at : ℕ) (c : Book) (r : Moved) (m : Moves c s at r) where
+module _ (c : Book) (s : List ℕ) (at : ℕ) (r : Moved) (m : Moves c s at r) where
   -- whether it stopped, by what reaches from here
   stops-by : (x : Outcome ℕ) → reachOf (drop at s) ≡ x → r .stops ≡ stopping x
   stops-by x e = m .stops ∙ ap stopping e
@@ -70,49 +75,50 @@ module _ (s : List ℕ) (from : ℕ) (b : Book) (at : ℕ) (c : Book) (r : Moved
   goes-on f = go (reachOf (drop at s)) refl
     where
       go : (x : Outcome ℕ) → reachOf (drop at s) ≡ x → (at < r .at) × (r .at ≤ length s)
-      go (refused a) e = absurd (let y : _≡_ {A = Bool} true false = sym (stops-by (refused a) e) ∙ f in let z : _≡_ {A = ℕ} 0 1 = cc in omega arith)
+      go (refused a) e = absurd (true≢false (sym (stops-by (refused a) e) ∙ f))
       go (done n) e =
           let l = reached (drop at s) n e .least in
           let to : r .at ≡ at + n = m .at ∙ ap (λ (x : Outcome ℕ). landing x at) e in
-          (omega arith, omega (arith, move-within c s at n e))
+          (omega arith, omega (arith, move-within s at n e))
 
-  pub left-on : r .stops ≡ false → Left s from b at c → Left s from b (r .at) (r .book)
-  unfolding walkFor stepsOf moveOf
-  left-on f l = go (reachOf (drop at s)) refl (l .fuel) (l .enough) (l .same-end) (l .same-answer) (l .same-view)
-    where
-      go : (x : Outcome ℕ) → reachOf (drop at s) ≡ x → (g : ℕ) → length s < at + g → walkFor g s at .at ≡ walkOf s from .at → walkFor g s at .answer ≡ walkOf s from .answer
-          → (Wf b → stepsOf (view c) (walkFor g s at .messages) ≡ stepsOf (view b) (walkOf s from .messages)) → Left s from b (r .at) (r .book)
-      go (refused a) e g h p q v = absurd (let y : _≡_ {A = Bool} true false = sym (stops-by (refused a) e) ∙ f in let z : _≡_ {A = ℕ} 0 1 = cc in omega arith)
-      go (done n) e zero h p q v = absurd (omega (arith, move-within c s at n e))
-      go (done n) e (suc g) h p q v =
-          let least = reached (drop at s) n e .least in
-          let to : r .at ≡ at + n = m .at ∙ ap (λ (x : Outcome ℕ). landing x at) e in
-          record {
-            fuel = g;
-            enough = omega (arith, h);
-            some = omega (arith, h, move-within c s at n e);
-            same-end = rw to (rw e at p);
-            same-answer = rw to (rw e at q);
-            passed = omega (arith, l .passed);
-            still = λ z. absurd (omega (arith, l .passed, z));
-            sound = λ w. m .obeys (l .sound w) .wf;
-            same-view = λ w. rw (to, m .obeys (l .sound w) .next-view, e) (rw e at (v w));
-          }
+  module _ (from : ℕ) (b : Book) where
+    pub left-on : r .stops ≡ false → Left s from b at c → Left s from b (r .at) (r .book)
+    unfolding walkFor stepsOf moveOf
+    left-on f l = go (reachOf (drop at s)) refl (l .fuel) (l .enough) (l .same-end) (l .same-answer) (l .same-view)
+      where
+        go : (x : Outcome ℕ) → reachOf (drop at s) ≡ x → (g : ℕ) → length s < at + g → walkFor g s at .at ≡ walkOf s from .at → walkFor g s at .answer ≡ walkOf s from .answer
+            → (Wf b → stepsOf (view c) (walkFor g s at .messages) ≡ stepsOf (view b) (walkOf s from .messages)) → Left s from b (r .at) (r .book)
+        go (refused a) e g h p q v = absurd (true≢false (sym (stops-by (refused a) e) ∙ f))
+        go (done n) e zero h p q v = absurd (omega (arith, move-within s at n e))
+        go (done n) e (suc g) h p q v =
+            let least = reached (drop at s) n e .least in
+            let to : r .at ≡ at + n = m .at ∙ ap (λ (x : Outcome ℕ). landing x at) e in
+            record {
+              fuel = g;
+              enough = omega (arith, h);
+              some = omega (arith, h, move-within s at n e);
+              same-end = rw to (rw e at p);
+              same-answer = rw to (rw e at q);
+              passed = omega (arith, l .passed);
+              still = λ z. absurd (omega (arith, l .passed, z));
+              sound = λ w. m .obeys (l .sound w) .wf;
+              same-view = λ w. rw (to, m .obeys (l .sound w) .next-view, e) (rw e at (v w));
+            }
 
-  pub left-end : r .stops ≡ true → Left s from b at c → Runs b s from (record { book = r .book; at = r .at; answer = r .answer })
-  unfolding walkFor stepsOf moveOf runOf
-  left-end t l = go (reachOf (drop at s)) refl (l .fuel) (l .some) (l .same-end) (l .same-answer) (l .same-view)
-    where
-      go : (x : Outcome ℕ) → reachOf (drop at s) ≡ x → (g : ℕ) → 0 < g → walkFor g s at .at ≡ walkOf s from .at → walkFor g s at .answer ≡ walkOf s from .answer
-          → (Wf b → stepsOf (view c) (walkFor g s at .messages) ≡ stepsOf (view b) (walkOf s from .messages)) → Runs b s from (record { book = r .book; at = r .at; answer = r .answer })
-      go (done n) e g h p q v = absurd (let y : _≡_ {A = Bool} false true = sym (stops-by (done n) e) ∙ t in let z : _≡_ {A = ℕ} 0 1 = cc in omega arith)
-      go (refused a) e zero h p q v = absurd (not-suc-le-zero h)
-      go (refused a) e (suc g) h p q v =
-          let to : r .at ≡ at = m .at ∙ ap (λ (x : Outcome ℕ). landing x at) e in
-          let number : r .answer ≡ a = ap (λ (x : Moved). x .answer) (m .stopped t) ∙ ap (numberOf {A = ℕ}) e in
-          record {
-            at = to ∙ (rw e at p);
-            answer = number ∙ (rw e at q);
-            kept = λ z. ap (λ (x : Moved). x .book) (m .stopped t) ∙ l .still (sym to ∙ z);
-            obeys = λ w. record { wf = m .obeys (l .sound w) .wf; next-view = m .obeys (l .sound w) .next-view ∙ (rw e (rw e at (v w))); answer = number ∙ (rw e at q) };
-          }
+    pub left-end : r .stops ≡ true → Left s from b at c → Runs b s from (record { book = r .book; at = r .at; answer = r .answer })
+    unfolding walkFor stepsOf moveOf runOf
+    left-end t l = go (reachOf (drop at s)) refl (l .fuel) (l .some) (l .same-end) (l .same-answer) (l .same-view)
+      where
+        go : (x : Outcome ℕ) → reachOf (drop at s) ≡ x → (g : ℕ) → 0 < g → walkFor g s at .at ≡ walkOf s from .at → walkFor g s at .answer ≡ walkOf s from .answer
+            → (Wf b → stepsOf (view c) (walkFor g s at .messages) ≡ stepsOf (view b) (walkOf s from .messages)) → Runs b s from (record { book = r .book; at = r .at; answer = r .answer })
+        go (done n) e g h p q v = absurd (false≢true (sym (stops-by (done n) e) ∙ t))
+        go (refused a) e zero h p q v = absurd (not-suc-le-zero h)
+        go (refused a) e (suc g) h p q v =
+            let to : r .at ≡ at = m .at ∙ ap (λ (x : Outcome ℕ). landing x at) e in
+            let number : r .answer ≡ a = ap (λ (x : Moved). x .answer) (m .stopped t) ∙ ap (numberOf {A = ℕ}) e in
+            record {
+              at = to ∙ (rw e at p);
+              answer = number ∙ (rw e at q);
+              kept = λ z. ap (λ (x : Moved). x .book) (m .stopped t) ∙ l .still (sym to ∙ z);
+              obeys = λ w. record { wf = m .obeys (l .sound w) .wf; next-view = m .obeys (l .sound w) .next-view ∙ (rw e (rw e at (v w))); answer = number ∙ (rw e at q) };
+            }

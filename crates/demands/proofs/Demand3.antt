@@ -14,6 +14,7 @@ use Rattle.book.specs.Quote.{quoteOf}
 use Rattle.book.specs.Walk.{moveBy, moveOf, stepsOf, runOf, Moves}
 use Rattle.book.specs.declared.Book.{Book}
 use Rattle.book.specs.declared.walk.Moved.{Moved}
+use Rattle.book.proofs.Walking.{steps-join}
 use Rattle.demands.specs.Reader.{pillar, asQuote}
 use Rattle.demands.specs.ByteFeed.{ByteFeed, hears, sent, delivered, IsDone, Applied, actIn, feedOf}
 use Rattle.demands.specs.Demand3.{Began, StandsAt, Reads, nothing, applies, refuses, runs, RunsOver, ran, Given, AnswersZero, nothing-yet, to-heard, to-lost, Demand3, quoteIn}
@@ -22,7 +23,7 @@ use Rattle.demands.proofs.Starting.{began-wf}
 use Rattle.demands.proofs.Laying.{AllComplete, sent-complete, delivered-complete, walks-messages}
 use Rattle.demands.proofs.Moments.{given-at}
 use Rattle.demands.proofs.Refused.{refused-changes-nothing, counted-steps, all-count}
-use Rattle.demands.proofs.Translating.{steps-join, steps-last, first-steps, second-steps, heard-acts, is-registered, given-feed}
+use Rattle.demands.proofs.Translating.{steps-last, first-steps, second-steps, heard-acts, is-registered, given-feed}
 
 -- ---- a message that stands there is stepped over
 pub stands-step : (v : View) {s : List ℕ} {at : ℕ} {m : List ℕ} → StandsAt s at m → moveOf v s at ≡ stepOf v (readOf m)

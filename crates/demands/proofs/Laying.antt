@@ -5,12 +5,10 @@ use Prim.Native.Nat.{ℕ, zero, suc, _+_, _<_}
 use native.Mathlib.Omega.{arith}
 use native.Mathlib.Nat.{not-suc-le-zero}
 use lib.ListN.{length, take, drop, length-append, take-append-drop}
-use lib.Seq.{length-take-le, take-take, take-at, drop-at, drop-drop}
+use lib.Seq.{length-take-le, take-at, drop-at, drop-drop}
 use Rattle.wire.specs.Outcome.{Outcome, done, refused}
-use Rattle.wire.specs.Bytes.{value}
-use Rattle.wire.specs.Reading.{msgSize, reachOf, reachBy}
-use Rattle.wire.proofs.Cases.{reached, reach-size}
-use Rattle.book.proofs.Parts.{reach-more}
+use Rattle.wire.specs.Reading.{reachOf, reachBy}
+use Rattle.wire.proofs.Cases.{reached, reach-size, reach-more, own-size}
 use Rattle.book.specs.Walk.{walkBy, walkFor, walkOf}
 use Rattle.demands.specs.ByteFeed.{ByteFeed, begins, hears, loses, sent, delivered, endToEnd, CompleteMessage, Complete}
 
@@ -39,8 +37,7 @@ complete-part : (s : List ℕ) (n : ℕ) → reachOf s ≡ done n → CompleteMe
 complete-part s n e =
     let r = reached s n e in
     let long : length (take n s) ≡ n = length-take-le n s (r .there) in
-    let size : msgSize (take n s) ≡ n = ap value (take-take 2 n s (omega (arith, r .least))) ∙ r .size in
-    reach-size (take n s) (omega (arith, r .least)) (omega (arith, r .least)) (omega arith) ∙ ap done (size ∙ sym long)
+    reach-size (take n s) (omega (arith, r .least)) (omega (arith, r .least, own-size s n e)) (omega (arith, own-size s n e)) ∙ ap done (own-size s n e ∙ sym long)
 
 walk-endToEnd : (ms : List (List ℕ)) → AllComplete ms → (fuel : ℕ) (s : List ℕ) (at : ℕ) → drop at s ≡ endToEnd ms → length (endToEnd ms) < fuel → walkFor fuel s at .messages ≡ ms
 unfolding walkFor endToEnd reachOf reachBy
@@ -52,7 +49,7 @@ walk-endToEnd (m ∷ ms) w (suc fuel) s at e h =
     let n = length-append m (endToEnd ms) in
     let first : take (length m) (drop at s) ≡ m = ap (take (length m)) e ∙ take-at m (endToEnd ms) (length m) refl in
     let rest : drop (at + length m) s ≡ endToEnd ms = sym (drop-drop (length m) at s) ∙ ap (drop (length m)) e ∙ drop-at m (endToEnd ms) (length m) refl in
-    let reach : reachOf (drop at s) ≡ done (length m) = ap reachOf e ∙ reach-more m (endToEnd ms) (length m) (w .0) in
+    let reach : reachOf (drop at s) ≡ done (length m) = ap reachOf e ∙ reach-more m (endToEnd ms) (length m) (w .0) .0 in
     ap (λ (x : Outcome ℕ). walkBy x s at (λ e. walkFor fuel s e) .messages) reach
     ∙ (λ i. first i ∷ walk-endToEnd ms (w .1) fuel s (at + length m) rest (omega (arith, h, r .least)) i)
 

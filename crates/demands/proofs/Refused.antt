@@ -14,7 +14,7 @@ use Rattle.book.specs.declared.Book.{Book}
 use Rattle.book.specs.declared.walk.Moved.{Moved}
 use Rattle.book.proofs.Refusals.{refused-view}
 use Rattle.demands.specs.Demand3.{Counted, none, counts, refused}
-use Rattle.demands.proofs.Translating.{steps-join}
+use Rattle.book.proofs.Walking.{steps-join}
 
 one-to-five : (a : ℕ) → 1 ≤ a → a ≤ 5 → unchanging a ≡ true
 unfolding among

@@ -15,6 +15,7 @@ use Rattle.book.specs.State.{Symbol, View, view, symbolIn}
 use Rattle.book.specs.Step.{Next, actOn, meant, stepOn, stepOf}
 use Rattle.book.specs.Walk.{stepsOf}
 use Rattle.book.specs.declared.Book.{Book}
+use Rattle.book.proofs.Walking.{steps-join}
 use Rattle.demands.specs.Reader.{pillar, Effect, keptIf, keptIn, Registered}
 use Rattle.demands.specs.ByteFeed.{ByteFeed, begins, hears, loses, sent, delivered, Applied, ClearsDelivered, said, actIn, feedOf, IsDone}
 use Rattle.demands.specs.Demand3.{Given}
@@ -76,11 +77,6 @@ act-numbered m r ne = go (readOf m .outcome) (read-tells m) r
     go (refused a) t u = absurd u
 
 -- ---- lists of messages
-pub steps-join : (v : View) (ms ns : List (List ℕ)) → stepsOf v (ms ++ ns) ≡ stepsOf (stepsOf v ms) ns
-unfolding stepsOf
-steps-join v [] ns = refl
-steps-join v (m ∷ ms) ns = steps-join (stepOf v (readOf m) .view) ms ns
-
 pub steps-last : (v : View) (ms : List (List ℕ)) (m : List ℕ) → stepsOf v (ms ++ m ∷ []) ≡ stepOf (stepsOf v ms) (readOf m) .view
 unfolding stepsOf
 steps-last v ms m = steps-join v ms (m ∷ [])

@@ -3,5 +3,4 @@ pub mod Phases
 pub mod Words
 pub mod Book
 pub mod Demand3
-pub mod Runs
 pub mod Idle

@@ -82,7 +82,7 @@ module _ (R : Rules) (D : Reader R) (s₀ t₀ : D .State) where
   Quotes i f (behind g) = QuotesAs i f g
   Quotes i f refuses = Refuses i f
 
-  -- DEMAND 3, clause by clause. What is given of a feed is given of its every moment (`given-at`), so f is any moment.
+  -- DEMAND 3, clause by clause. A feed up to any moment is a feed, so f is any moment.
   pub record Demand3 : Type 0 where
     -- none of the symbol's messages lost: the quote is the first reader's of now
     pub nothing-lost : (i : ℕ) {f : Feed (R .Effect)} → Given R D s₀ t₀ f → NoneLost i f → QuotesAs i f f

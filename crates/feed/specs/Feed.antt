@@ -1,8 +1,7 @@
 -- A feed with its losses, the two readers of it, and what demand 3 takes as given.
 use Prim.Native.Nat.{ℕ}
 use mathlib.Core.Bool.{cond}
-use mathlib.Core.List.{List, [], _∷_, _++_}
-use mathlib.Core.Logic.{_↔_, _≢_}
+use mathlib.Core.Logic.{_↔_}
 use mathlib.Core.Path.{_≡_}
 use lib.Dec.{eqb}
 use Rattle.feed.specs.Reader.{Rules, Act, clear, numbered, indexOf, New, Reader, Registered}
@@ -11,6 +10,11 @@ use Rattle.feed.specs.Reader.{Rules, Act, clear, numbered, indexOf, New,
 pub data Item (E : Type 0) : Type 0 where
   heard : Act E → Item E
   lost : Act E → Item E
+
+-- what the first reader receives
+abbrev pub messageIn : {E : Type 0} → Item E → Act E
+messageIn (heard m) = m
+messageIn (lost m) = m
 
 -- A feed up to a moment, the last message outermost. So every feed is a moment, and what stands inside it are the earlier ones.
 infixl 50 _▷_
@@ -55,33 +59,11 @@ module _ {E : Type 0} where
   ClearsHeard (f ▷ lost (clear index next)) = ⊥
   ClearsHeard (f ▷ lost (numbered index number effect)) = ClearsHeard f
 
-  -- The messages of the feed in order: all of them, and those that the second reader is given
-  unfoldable pub sent : Feed E → List (Act E)
-  sent start = []
-  sent (f ▷ heard m) = sent f ++ m ∷ []
-  sent (f ▷ lost m) = sent f ++ m ∷ []
-
-  unfoldable pub delivered : Feed E → List (Act E)
-  delivered start = []
-  delivered (f ▷ heard m) = delivered f ++ m ∷ []
-  delivered (f ▷ lost m) = delivered f
-
-  -- none of these messages is for the symbol
-  unfoldable pub NoneFor : ℕ → List (Act E) → Type 0
-  NoneFor i [] = Unit {0}
-  NoneFor i (m ∷ ms) = (i ≢ indexOf m) × NoneFor i ms
-
 module _ (R : Rules) (D : Reader R) where
-  -- a reader after the messages of a list
-  unfoldable pub runs : D .State → List (Act (R .Effect)) → D .State
-  runs s [] = s
-  runs s (m ∷ ms) = runs (D .step s m) ms
-
   -- the first reader, which receives all of the feed
   unfoldable pub first : D .State → Feed (R .Effect) → D .State
   first s₀ start = s₀
-  first s₀ (f ▷ heard m) = D .step (first s₀ f) m
-  first s₀ (f ▷ lost m) = D .step (first s₀ f) m
+  first s₀ (f ▷ it) = D .step (first s₀ f) (messageIn it)
 
   -- the second one, which receives all but what is lost
   unfoldable pub second : D .State → Feed (R .Effect) → D .State
@@ -92,8 +74,7 @@ module _ (R : Rules) (D : Reader R) where
   -- the first reader applies the feed without one refusal
   unfoldable pub Accepted : D .State → Feed (R .Effect) → Type 0
   Accepted s₀ start = Unit {0}
-  Accepted s₀ (f ▷ heard m) = Accepted s₀ f × (D .answer (first s₀ f) m ≡ 0)
-  Accepted s₀ (f ▷ lost m) = Accepted s₀ f × (D .answer (first s₀ f) m ≡ 0)
+  Accepted s₀ (f ▷ it) = Accepted s₀ f × (D .answer (first s₀ f) (messageIn it) ≡ 0)
 
   -- What demand 3 takes as given: two readers, new and with the same symbols registered, each in an order of its own; a feed that the first of them accepts, and
   -- of which the second may lose what is numbered

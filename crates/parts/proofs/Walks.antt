@@ -10,6 +10,7 @@ use Rattle.wire.specs.Outcome.{Outcome, done, refused}
 use Rattle.wire.specs.Reading.{reachOf}
 use Rattle.wire.proofs.Cases.{reached}
 use Rattle.book.specs.Walk.{Walk, walkBy, walkFor, walkOf}
+use Rattle.book.proofs.Positions.{stops-there}
 use Rattle.parts.specs.Parts.{stopped, leftOf}
 
 -- two walks from different positions find the same
@@ -89,7 +90,4 @@ walk-within =
 
 -- where it stops, what is left is why
 pub left-stops : (s : List ℕ) → reachOf (leftOf s) ≡ refused (walkOf s 0 .answer)
-left-stops =
-    by-messages (λ s. reachOf (leftOf s) ≡ refused (walkOf s 0 .answer))
-    (λ s a e. rw (walk-stops s a e) e)
-    (λ s n e ih. rw (walk-goes s n e, ← drop-drop (walkOf (drop n s) 0 .at) n s) ih)
+left-stops s = stops-there s 0

@@ -15,7 +15,7 @@ module _ {A : Type 0} (n k : ℕ) (l : List A) (d : A) (room : k * n + n ≤ len
     pub searched-more : j < n → p (getD l (k * n + j) d) ≡ false → Passed p (part n k l) (j + 1)
     searched-more h e = passed-more p (part n k l) j d (rw (part-length n k l room) h) (rw (part-get n k l j d h) e) passed
 
-    pub searched-all : j ≤ n → n ≤ j → length (part n k l) ≤ first p (part n k l)
+    searched-all : j ≤ n → n ≤ j → length (part n k l) ≤ first p (part n k l)
     searched-all h g =
         let e : j ≡ n = omega arith in
         let z = passed-all p (part n k l) n (part-length n k l room) (rw e at passed) in

@@ -2,7 +2,7 @@
 use mathlib.Core.Bool.{Bool, true, false, cond, not}
 use mathlib.Core.List.{List, [], _∷_}
 use mathlib.Core.Path.{_≡_, refl, sym, ap, _∙_, subst}
-use Prim.Native.Nat.{ℕ, zero, suc, _+_, _-_, _<_, _≤_}
+use Prim.Native.Nat.{ℕ, zero, suc, _+_, _<_, _≤_}
 use native.Mathlib.Nat.{add-zero, zero-add, add-suc, suc-add, le-of-suc-le-suc, not-suc-le-zero}
 use native.Mathlib.Numerals.{add-one}
 use native.Mathlib.Omega.{arith}
@@ -87,3 +87,14 @@ unfolding first
 first-set p [] k a d h e = absurd (not-suc-le-zero h)
 first-set p (x ∷ l) zero a d h e = rw e
 first-set p (x ∷ l) (suc k) a d h e = ap (λ (n : ℕ). cond (p x) 0 (suc n)) (first-set p l k a d (le-of-suc-le-suc h) e)
+
+-- where none passed, what passes is found where it was put
+pub first-new : {A : Type 0} (p : A → Bool) (l : List A) (k : ℕ) (a : A) → k < length l → p a ≡ true → length l ≤ first p l → first p (set l k a) ≡ k
+unfolding first
+first-new p [] k a h e n = absurd (not-suc-le-zero h)
+first-new p (x ∷ l) zero a h e n = rw e
+first-new p (x ∷ l) (suc k) a h e n = go (λ g. first-new p l k a (le-of-suc-le-suc h) e g) (p x) refl
+  where
+    go : (length l ≤ first p l → first p (set l k a) ≡ k) → (t : Bool) → p x ≡ t → cond (p x) 0 (suc (first p (set l k a))) ≡ suc k
+    go ih true q = absurd (not-suc-le-zero (rw q at n))
+    go ih false q = rw q (ap suc (ih (le-of-suc-le-suc (rw q at n))))

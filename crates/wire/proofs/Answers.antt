@@ -1,7 +1,7 @@
 -- Reading goes down the table: what it hands on has the type that the bytes say, and what it refuses it refuses with 1 to 4.
 use mathlib.Core.Bool.{Bool, true, false}
 use mathlib.Core.List.{List, [], _∷_}
-use mathlib.Core.Path.{_≡_, refl}
+use mathlib.Core.Path.{_≡_, refl, sym}
 use Prim.Native.Nat.{ℕ, _≤_}
 use native.Mathlib.Omega.{arith}
 use lib.Dec.{eqb, ltb}
@@ -13,6 +13,7 @@ use Rattle.wire.specs.Fields.{fieldsAt, faultBy, faultOf}
 use Rattle.wire.specs.Message.{messageOf, typeOf}
 use Rattle.wire.specs.Reading.{msgSize, msgType, reachBy, reachOf, readBy, readBody, readSized, readShape, readTyped, readReached, readOf}
 use Rattle.wire.specs.declared.Message.{Message}
+use Rattle.wire.proofs.Cases.{done-is-not-refused}
 
 -- a message of the type n, or a number from 1 to 4
 abbrev pub Tells : ℕ → Outcome Message → Type 0
@@ -68,7 +69,7 @@ module _ (s : List ℕ) where
   reach-stops true below beyond a e = let z : 1 ≡ a = cc in (omega arith, omega arith)
   reach-stops false true beyond a e = let z : 2 ≡ a = cc in (omega arith, omega arith)
   reach-stops false false true a e = let z : 1 ≡ a = cc in (omega arith, omega arith)
-  reach-stops false false false a e = absurd (let z : _≡_ {A = ℕ} 0 1 = cc in omega arith)
+  reach-stops false false false a e = absurd (done-is-not-refused (sym e))
 
   pub reach-refuses : (a : ℕ) → reachOf s ≡ refused a → (1 ≤ a) × (a ≤ 2)
   unfolding reachOf

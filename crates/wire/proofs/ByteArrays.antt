@@ -1,4 +1,4 @@
--- Laws of a message's byte array: copied out of a slice, it is padded with zeros.
+-- A message's byte array is copied byte by byte over zeros, so zeros stay behind the bytes copied.
 use mathlib.Core.Path.{_≡_, sym, ap, _∙_, subst}
 use mathlib.Core.List.{List}
 use Prim.Native.Nat.{ℕ, zero, suc, _+_, _-_, _<_}

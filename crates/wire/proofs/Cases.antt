@@ -1,19 +1,19 @@
--- The cases of reading and writing, each as one law. The crates above cite these.
+-- The tests of reading and writing decide the clause, so each case is one law. The crates above cite these.
 use mathlib.Core.Path.{_≡_, refl, ap, _∙_}
 use mathlib.Core.List.{List, _++_}
 use mathlib.Core.Bool.{Bool, true, false}
 use Prim.Native.Nat.{ℕ, _≤_, _<_}
 use native.Mathlib.Omega.{arith}
-use lib.ListN.{length, drop}
+use lib.ListN.{length, take, drop, length-append}
 use lib.Dec.{ltb}
 use borrow.Author.Tests.{lt-ltb, le-ltb, eq-eqb, ne-eqb, ltb-false}
-use lib.Seq.{slice}
+use lib.Seq.{slice, take-take, take-append-le}
 use Rattle.wire.specs.declared.table.Layout.{Layout}
 use Rattle.wire.specs.declared.table.Shape.{Shape}
 use Rattle.wire.specs.declared.fields.Fault.{Fault}
 use Rattle.wire.specs.declared.Message.{Message}
 use Rattle.wire.specs.Outcome.{Outcome, done, refused}
-use Rattle.wire.specs.Bytes.{paddedPlain}
+use Rattle.wire.specs.Bytes.{value, paddedPlain}
 use Rattle.wire.specs.Table.{shapeOf}
 use Rattle.wire.specs.Fields.{fieldsAt, faultOf}
 use Rattle.wire.specs.Message.{messageOf, fieldsOf, typeOf}
@@ -21,6 +21,10 @@ use Rattle.wire.specs.Reading as reading
 use Rattle.wire.specs.Reading.{msgSize, msgType, reachBy, reachOf, readBy, readBody, readSized, readShape, readTyped, readReached, readOf}
 use Rattle.wire.specs.Writing as writing
 use Rattle.wire.specs.Writing.{imageOf, writeSized, writeBy, writeShape, writeOf}
+
+-- what is done is not refused
+pub done-is-not-refused : {A : Type 0} {a : A} {n : ℕ} → refused n ≡ done a → ⊥
+done-is-not-refused e = let z : _≡_ {A = ℕ} 0 1 = cc in omega arith
 
 -- ---- how far a message reaches
 module _ (s : List ℕ) where
@@ -49,9 +53,9 @@ pub record Reached (s : List ℕ) (n : ℕ) : Type 0 where
 reached-by : (s : List ℕ) (n : ℕ) (short below beyond : Bool) → ltb (msgSize s) 4 ≡ below → ltb (length s) (msgSize s) ≡ beyond →
     reachBy short below beyond (msgSize s) ≡ done n → Reached s n
 unfolding reachBy
-reached-by s n true below beyond p q e = let z : _≡_ {A = ℕ} 0 1 = cc in absurd (omega arith)
-reached-by s n false true beyond p q e = let z : _≡_ {A = ℕ} 0 1 = cc in absurd (omega arith)
-reached-by s n false false true p q e = let z : _≡_ {A = ℕ} 0 1 = cc in absurd (omega arith)
+reached-by s n true below beyond p q e = absurd (done-is-not-refused e)
+reached-by s n false true beyond p q e = absurd (done-is-not-refused e)
+reached-by s n false false true p q e = absurd (done-is-not-refused e)
 reached-by s n false false false p q e =
     let same : msgSize s ≡ n = cc in
     record { size = same; least = omega (arith, ltb-false (msgSize s) 4 p); there = omega (arith, ltb-false (length s) (msgSize s) q) }
@@ -59,6 +63,17 @@ reached-by s n false false false p q e =
 pub reached : (s : List ℕ) (n : ℕ) → reachOf s ≡ done n → Reached s n
 unfolding reachOf
 reached s n e = reached-by s n (ltb (length s) 4) (ltb (msgSize s) 4) (ltb (length s) (msgSize s)) refl refl e
+
+-- its own bytes have that Msg Size, and with more bytes behind it is the same message
+pub own-size : (s : List ℕ) (n : ℕ) → reachOf s ≡ done n → msgSize (take n s) ≡ n
+own-size s n e = ap value (take-take 2 n s (omega (arith, reached s n e .least))) ∙ reached s n e .size
+
+pub reach-more : (s t : List ℕ) (n : ℕ) → reachOf s ≡ done n → (reachOf (s ++ t) ≡ done n) × (take n (s ++ t) ≡ take n s)
+reach-more s t n e =
+    let r = reached s n e in
+    let len = length-append s t in
+    let size : msgSize (s ++ t) ≡ n = ap value (take-append-le 2 s t (omega (arith, r .least, r .there))) ∙ r .size in
+    (reach-size (s ++ t) (omega (arith, r .least, r .there)) (omega (arith, r .least)) (omega (arith, r .there)) ∙ ap done size, take-append-le n s t (r .there))
 
 -- ---- reading
 module _ (s : List ℕ) where

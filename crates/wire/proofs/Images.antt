@@ -1,7 +1,7 @@
--- The bytes of a message, over any layout: what stands in them, and which bytes of a stream they are.
+-- The numbers, the byte array and the reserved bytes of a message lie end to end, over any layout, so each is read where it was written, and their slices join to the message.
 use mathlib.Core.Path.{_≡_, refl, sym, ap, _∙_}
 use mathlib.Core.List.{List, [], _++_, append-assoc}
-use Prim.Native.Nat.{ℕ, _+_, _-_, _≤_}
+use Prim.Native.Nat.{ℕ, _-_, _≤_}
 use native.Mathlib.Omega.{arith}
 use lib.ListN.{length, take, getD, length-append}
 use lib.Seq.{slice, length-take-le, length-slice, take-at}

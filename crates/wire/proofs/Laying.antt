@@ -15,7 +15,7 @@ use Rattle.wire.proofs.Numbers.{length-littleEndian}
 
 -- ---- one turn of the writer's loop
 
-pub stored-next : (a i : ℕ) (ends v out : List ℕ) → i < length ends → i < length v →
+stored-next : (a i : ℕ) (ends v out : List ℕ) → i < length ends → i < length v →
     stored a (drop i ends) (drop i v) out ≡ stored (getD ends i 0) (drop (i + 1) ends) (drop (i + 1) v) (splice out a (getD ends i 0) (littleEndian (getD ends i 0 - a) (getD v i 0)))
 stored-next a i ends v out h k = rw (add-one i, drop-cons ends i 0 h, drop-cons v i 0 k)
 
@@ -23,11 +23,25 @@ pub rising-next : (a i n : ℕ) (ends : List ℕ) → i < length ends → Rising
     (a ≤ getD ends i 0) × (getD ends i 0 ≤ n) × Rising (getD ends i 0) (drop (i + 1) ends) n
 rising-next a i n ends h r = rw (add-one i) (rw (drop-cons ends i 0 h) at r)
 
-pub stored-over : (a i : ℕ) (ends v out : List ℕ) → length ends ≤ i → stored a (drop i ends) (drop i v) out ≡ out
-stored-over a i ends v out h = rw (drop-of-length-le ends h)
+-- after some of the stores: the rest of them over what is there now come to all of them over what was there
+pub record Storing (out₀ ends v out : List ℕ) (a i : ℕ) : Type 0 where
+  pub long : length out ≡ length out₀
+  pub rises : Rising a (drop i ends) (length out₀)
+  pub rest : stored a (drop i ends) (drop i v) out ≡ stored 0 ends v out₀
+
+pub storing-next : (out₀ ends v out next : List ℕ) (a i : ℕ) → i < length ends → i < length v → length next ≡ length out →
+    next ≡ splice out a (getD ends i 0) (littleEndian (getD ends i 0 - a) (getD v i 0)) → Storing out₀ ends v out a i → Storing out₀ ends v next (getD ends i 0) (i + 1)
+storing-next out₀ ends v out next a i h k long e s = record {
+  long = long ∙ s .long;
+  rises = rising-next a i (length out₀) ends h (s .rises) .2;
+  rest = ap (stored (getD ends i 0) (drop (i + 1) ends) (drop (i + 1) v)) e ∙ sym (stored-next a i ends v out h k) ∙ s .rest;
+}
+
+pub storing-over : (out₀ ends v out : List ℕ) (a i : ℕ) → length ends ≤ i → Storing out₀ ends v out a i → out ≡ stored 0 ends v out₀
+storing-over out₀ ends v out a i h s = rw (drop-of-length-le ends h) at (s .rest)
 
 -- ---- the first a places of cur are pre, and the others are as they were
-pub record Filled (out : List ℕ) (a : ℕ) (pre cur : List ℕ) : Type 0 where
+record Filled (out : List ℕ) (a : ℕ) (pre cur : List ℕ) : Type 0 where
   pub long : length pre ≡ a
   pub is : cur ≡ pre ++ drop a out
 

@@ -1,4 +1,4 @@
--- Laws of numbers as bytes, over every width.
+-- A number is its first byte and 256 times the rest, so reading and writing go one byte at a time, over every width.
 use mathlib.Core.Path.{_≡_, refl, sym, ap, _∙_}
 use mathlib.Core.List.{List, [], _∷_, _++_, append-nil}
 use Prim.Native.Nat.{ℕ, zero, suc, _+_, _*_, _-_, _/_, _%_, _^_, _≤_, _<_}

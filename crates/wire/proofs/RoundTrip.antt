@@ -1,4 +1,4 @@
--- Demand 2's round trips: reading what was written gives the same message, and writing what was read gives the same bytes.
+-- Demand 2's round trips hold since the fields of a message fit the layout of its type, and the bytes of a layout are read where they are written.
 use mathlib.Core.Path.{_≡_, refl, sym, ap, _∙_, subst}
 use mathlib.Core.List.{List, _++_}
 use mathlib.Core.Bool.{Bool, true, false}
@@ -22,7 +22,7 @@ use Rattle.wire.specs.Writing.{imageOf, writeSized, writeBy, writeShape,
 use Rattle.wire.specs.RoundTrip.{InRange, Bytes, arrayWidth, sameMessage, ReadsBack, ReservedZero, WritesBack}
 use Rattle.wire.proofs.Numbers.{value-empty}
 use Rattle.wire.proofs.Layouts.{AllRows, by-rows, layout-sane}
-use Rattle.wire.proofs.Cases.{Reached, reached, reach-size, read-reached, read-size, read-good, write-good}
+use Rattle.wire.proofs.Cases.{done-is-not-refused, Reached, reached, reach-size, read-reached, read-size, read-good, write-good}
 use Rattle.wire.proofs.Rows.{Fitting}
 use Rattle.wire.proofs.Images.{image-there, image-array, image-size, image-type, image-fields, image-of-read}
 
@@ -91,19 +91,19 @@ module _ (m : Message) (plain out : List ℕ) (long : length plain ≡ plainRoom
   by-room : (n : ℕ) (l : Layout) → shapeOf (typeOf m) ≡ Shape.Known l → faultOf l (fieldsOf m) ≡ Fault.Nothing → (b : Bool) →
       writeSized b l m plain out .outcome ≡ done n → readOf (writeSized b l m plain out .out) ≡ sameMessage m plain
   unfolding writeSized
-  by-room n l known good true e = let z : _≡_ {A = ℕ} 0 1 = cc in absurd (omega arith)
+  by-room n l known good true e = absurd (done-is-not-refused e)
   by-room n l known good false e =
       read-image l known good (drop (l .size) out) ∙ ap (λ (x : Shape). record { outcome = done m; plain = paddedPlain (take (arrayWidth x) plain) }) (sym known)
 
   by-fault : (n : ℕ) (l : Layout) → shapeOf (typeOf m) ≡ Shape.Known l → (x : Fault) → faultOf l (fieldsOf m) ≡ x →
       writeBy x l m plain out .outcome ≡ done n → readOf (writeBy x l m plain out .out) ≡ sameMessage m plain
   unfolding writeBy
-  by-fault n l known (Fault.At k) q e = let z : _≡_ {A = ℕ} 0 1 = cc in absurd (omega arith)
+  by-fault n l known (Fault.At k) q e = absurd (done-is-not-refused e)
   by-fault n l known Fault.Nothing q e = by-room n l known q (ltb (length out) (l .size)) e
 
   by-shape : (n : ℕ) (x : Shape) → shapeOf (typeOf m) ≡ x → writeShape x m plain out .outcome ≡ done n → readOf (writeShape x m plain out .out) ≡ sameMessage m plain
   unfolding writeShape
-  by-shape n Shape.Unknown q e = let z : _≡_ {A = ℕ} 0 1 = cc in absurd (omega arith)
+  by-shape n Shape.Unknown q e = absurd (done-is-not-refused e)
   by-shape n (Shape.Known l) q e = by-fault n l q (faultOf l (fieldsOf m)) refl e
 
   pub read-what-was-written : ReadsBack m plain (writeOf m plain out)
@@ -119,7 +119,7 @@ module _ (s : List ℕ) (bytes : Bytes s) (m : Message) (out : List ℕ) where
   module _ (l : Layout) (known : shapeOf (msgType s) ≡ Shape.Known l) (size : msgSize s ≡ l .size) (there : msgSize s ≤ length s) (room : msgSize s ≤ length out) where
     back-fields : (x : Fault) → faultOf l (fieldsAt s l) ≡ x → readBy x s l .outcome ≡ done m → ReservedZero (Shape.Known l) s → WroteAll (readBy x s l)
     unfolding readBy
-    back-fields (Fault.At k) q e zero = let z : _≡_ {A = ℕ} 0 1 = cc in absurd (omega arith)
+    back-fields (Fault.At k) q e zero = absurd (done-is-not-refused e)
     back-fields Fault.Nothing q e zero =
         let kept = keeps (msgType s) l known in
         let is : messageOf (l .kind) (fieldsAt s l) ≡ m = cc in
@@ -133,24 +133,24 @@ module _ (s : List ℕ) (bytes : Bytes s) (m : Message) (out : List ℕ) where
 
     back-size : (b : Bool) → readSized b s l .outcome ≡ done m → ReservedZero (Shape.Known l) s → WroteAll (readSized b s l)
     unfolding readSized readBody
-    back-size false e zero = let z : _≡_ {A = ℕ} 0 1 = cc in absurd (omega arith)
+    back-size false e zero = absurd (done-is-not-refused e)
     back-size true e zero = back-fields (faultOf l (fieldsAt s l)) refl e zero
 
   sized : (l : Layout) (n : ℕ) (b : Bool) → eqb n (l .size) ≡ b → readSized b s l .outcome ≡ done m → n ≡ l .size
   unfolding readSized
   sized l n true q e = eqb-true n (l .size) q
-  sized l n false q e = let z : _≡_ {A = ℕ} 0 1 = cc in absurd (omega arith)
+  sized l n false q e = absurd (done-is-not-refused e)
 
   back-shape : (n : ℕ) → Reached s n → (x : Shape) → shapeOf (msgType s) ≡ x → readShape x s n .outcome ≡ done m → ReservedZero x s → msgSize s ≤ length out → WroteAll (readShape x s n)
   unfolding readShape
-  back-shape n r Shape.Unknown q e zero room = let z : _≡_ {A = ℕ} 0 1 = cc in absurd (omega arith)
+  back-shape n r Shape.Unknown q e zero room = absurd (done-is-not-refused e)
   back-shape n r (Shape.Known l) q e zero room =
       let same : n ≡ l .size = sized l n (eqb n (l .size)) refl e in
       back-size l q (r .size ∙ same) (omega (arith, r .size, r .there)) room (eqb n (l .size)) e zero
 
   back-reached : (x : Outcome ℕ) → reachOf s ≡ x → readReached x s .outcome ≡ done m → ReservedZero (shapeOf (msgType s)) s → msgSize s ≤ length out → WroteAll (readReached x s)
   unfolding readReached readTyped
-  back-reached (refused n) q e zero room = let z : _≡_ {A = ℕ} 0 1 = cc in absurd (omega arith)
+  back-reached (refused n) q e zero room = absurd (done-is-not-refused e)
   back-reached (done n) q e zero room = back-shape n (reached s n q) (shapeOf (msgType s)) refl e zero room
 
 pub write-what-was-read : (s : List ℕ) → Bytes s → WritesBack s (readOf s)

@@ -1,5 +1,5 @@
 -- A typed message always has a type of the table, so that the writer's answer 3 never arises.
-use mathlib.Core.Path.{_≡_}
+use mathlib.Core.Path.{_≡_, sym}
 use mathlib.Core.List.{List}
 use mathlib.Core.Bool.{Bool, true, false}
 use Prim.Native.Nat.{ℕ}
@@ -15,6 +15,7 @@ use Rattle.wire.specs.Table.{shapeOf}
 use Rattle.wire.specs.Fields.{faultOf}
 use Rattle.wire.specs.Message.{fieldsOf, typeOf}
 use Rattle.wire.specs.Writing.{writeSized, writeBy, writeShape, writeOf}
+use Rattle.wire.proofs.Cases.{done-is-not-refused}
 
 abbrev IsKnown : Shape → Type 0
 IsKnown Shape.Unknown = ⊥
@@ -40,7 +41,7 @@ module _ (m : Message) (plain out : List ℕ) where
   by-room : (l : Layout) (b : Bool) → writeSized b l m plain out .outcome ≡ refused 3 → ⊥
   unfolding writeSized
   by-room l true e = let z : _≡_ {A = ℕ} 15 3 = cc in omega arith
-  by-room l false e = let z : _≡_ {A = ℕ} 0 1 = cc in omega arith
+  by-room l false e = done-is-not-refused (sym e)
 
   by-fault : (l : Layout) (x : Fault) → writeBy x l m plain out .outcome ≡ refused 3 → ⊥
   unfolding writeBy

@@ -1,5 +1,4 @@
 -- The turns fall, and a part leaves the buffer as long as it was.
-use Prim.Native.Nat.{_-_}
 use mathlib.Core.Path.{_≡_}
 use lib.ListN.{length}
 use borrow.Author.Needs.{needs}

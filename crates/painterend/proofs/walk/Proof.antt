@@ -1,9 +1,9 @@
--- Each message that does not stop the walk lies within the part (`moved-on`), so that what is left of the part falls.
+-- Each message that does not stop the walk lies within the part (`goes-on`), so that what is left of the part falls.
 use Prim.Native.Nat.{_≤_, _<_, _-_}
 use native.Mathlib.Omega.{arith}
 use denote.Ref.{now}
 use lib.ListN.{length}
-use Rattle.painterend.proofs.Moving.{moved-on}
+use Rattle.book.proofs.Walking.{goes-on}
 use borrow.Author.Needs.{needs}
 use Rattle.painterend.proofs.walk.Statement.{statement}
 use Rattle.painterend.proofs.walk.Tie as tie
@@ -16,7 +16,7 @@ abbrev μ-loop : tie.MeasureT-loop
 
 -- where the loop goes on, the message lies within the part
 on : (k : tie.Else1 Inv-loop μ-loop) → (k .before .before .before .loop .at < k .before .before .apply .result .at) × (k .before .before .apply .result .at ≤ length (now (k .before .before .before .before .before .args .part)))
-on k = moved-on (k .before .before .before .loop .b) (now (k .before .before .before .before .before .args .part)) (k .before .before .before .loop .at) (k .before .before .apply .result) (k .before .before .apply .ensures) (k .if1 .left) (k .before .before .before .loop .inv)
+on k = goes-on (k .before .before .before .loop .b) (now (k .before .before .before .before .before .args .part)) (k .before .before .before .loop .at) (k .before .before .apply .result) (k .before .before .apply .ensures) (k .if1 .left)
 
 loop-holds : tie.Need-loop-holds Inv-loop μ-loop
 loop-holds c = search needs

@@ -12,12 +12,12 @@ use borrow.Author.Needs.{needs}
 use Rattle.book.proofs.Book.apply.Statement.{statement}
 use Rattle.book.proofs.Book.apply.Tie as tie
 
--- the message is whole: it reaches so far
-whole : (k : tie.After-known-told) → reachOf (drop (k .before .before .before .before .before .args .at) (now (k .before .before .before .before .before .args .s))) ≡ done (k .before .reach .given .0 .0)
-whole k = sym (k .before .before .before .reach-at .ensures) ∙ ap reachedAs (k .before .reach .given .1)
+-- the message reaches so far
+reaches : (k : tie.After-known-told) → reachOf (drop (k .before .before .before .before .before .args .at) (now (k .before .before .before .before .before .args .s))) ≡ done (k .before .reach .given .0 .0)
+reaches k = sym (k .before .before .before .reach-at .ensures) ∙ ap reachedAs (k .before .reach .given .1)
 
 within : (k : tie.After-known-told) → k .before .before .before .before .before .args .at + k .before .reach .given .0 .0 ≤ length (now (k .before .before .before .before .before .args .s))
-within k = move-within (k .before .before .before .before .before .args .self) (now (k .before .before .before .before .before .args .s)) (k .before .before .before .before .before .args .at) (k .before .reach .given .0 .0) (whole k)
+within k = move-within (now (k .before .before .before .before .before .args .s)) (k .before .before .before .before .before .args .at) (k .before .reach .given .0 .0) (reaches k)
 
 reach-at-requires : tie.Need-reach-at-requires
 reach-at-requires c κs = search needs
@@ -59,7 +59,7 @@ returns-3 : tie.Need-returns-3
 returns-3 c =
     let k = c .before .before .before .before in
     let s = now (k .before .before .before .before .before .args .s) in
-    move-goes (k .before .before .before .before .before .args .self) s (k .before .before .before .before .before .args .at) (k .before .reach .given .0 .0) (whole k) (c .before .before .decode .result) _
+    move-goes (k .before .before .before .before .before .args .self) s (k .before .before .before .before .before .args .at) (k .before .reach .given .0 .0) (reaches k) (c .before .before .decode .result) _
     (c .before .before .decode .ensures .0 ∙ ap (λ (n : ℕ). readOf (take n (drop (k .before .before .before .before .before .args .at) s))) (add-sub-cancel-left (k .before .before .before .before .before .args .at) (k .before .reach .given .0 .0)))
     (c .before .step .ensures)
 

@@ -1,14 +1,13 @@
 -- Going down, the best so far is that of the places passed.
 use mathlib.Core.Path.{_≡_, sym, ap, _∙_}
-use Prim.Native.Nat.{ℕ, _≤_, _<_, _+_, _-_}
+use Prim.Native.Nat.{_≤_}
 use native.Mathlib.Omega.{arith}
-use lib.ListN.{length, drop}
+use lib.ListN.{drop}
 use Rattle.places.specs.Places.{fold}
-use Rattle.places.proofs.Parts.{part-length, part-get}
-use Rattle.places.proofs.Sums.{fold-down, fold-end}
+use Rattle.places.proofs.Sums.{part-fold-end, part-fold-down}
 use Rattle.book.specs.State.{ordersEach, noOrder, ordersIn}
 use Rattle.book.specs.Quote.{bestStep, noBest}
-use Rattle.book.proofs.Sizes.{orders-size}
+use Rattle.book.proofs.Sizes.{orders-reach}
 use borrow.Author.Needs.{needs}
 use Rattle.book.proofs.Book.best.Statement.{statement}
 use Rattle.book.proofs.Book.best.Tie as tie
@@ -23,11 +22,7 @@ mul-base : tie.Need-mul-base Inv-loop μ-loop
 mul-base c = search needs
 
 loop-holds : tie.Need-loop-holds Inv-loop μ-loop
-loop-holds c =
-    let a = c .args in
-    let len = orders-size (a .t1) _ (c .good .0) in
-    let full : length (ordersIn (a .t1) (a .k)) ≡ ordersEach = part-length ordersEach (a .k) (a .t1 .orders) (omega arith) in
-    (omega arith, sym (fold-end (bestStep (a .buy)) noBest (ordersIn (a .t1) (a .k)) ordersEach full))
+loop-holds c = (omega arith, sym (part-fold-end ordersEach (c .args .k) (c .args .t1 .orders) (orders-reach (c .args .t1) _ (c .good .0) _ (c .pre)) (bestStep (c .args .buy)) noBest))
 
 sub-j : tie.Need-sub-j Inv-loop μ-loop
 sub-j c = search needs
@@ -49,18 +44,9 @@ loop-less c = search needs
 
 loop-again : tie.Need-loop-again Inv-loop μ-loop
 loop-again c =
-    let a = c .before .before .before .before .args in
-    let len = orders-size (a .t1) _ (c .before .before .before .before .good .0) in
-    let full : length (ordersIn (a .t1) (a .k)) ≡ ordersEach = part-length ordersEach (a .k) (a .t1 .orders) (omega arith) in
+    let s = c .before .before .before .before in
     let l = c .before .before .before .loop in
-    let i : ℕ = l .j - 1 in
-    let e : i + 1 ≡ l .j = omega arith in
-    let below : i < ordersEach = omega arith in (
-      omega arith,
-      c .better .ensures
-          ∙ ap (bestStep (a .buy) _) (l .inv .1)
-          ∙ (rw (fold-down (bestStep (a .buy)) noBest (ordersIn (a .t1) (a .k)) i noOrder (omega arith), part-get ordersEach (a .k) (a .t1 .orders) i noOrder below, e)),
-    )
+    (omega arith, c .better .ensures ∙ ap (bestStep (s .args .buy) _) (l .inv .1) ∙ sym (part-fold-down ordersEach (s .args .k) (s .args .t1 .orders) (orders-reach (s .args .t1) _ (s .good .0) _ (s .pre)) (bestStep (s .args .buy)) noBest noOrder (l .j) (omega arith) (l .inv .0)))
 
 returns : tie.Need-returns Inv-loop μ-loop
 returns c = let e : c .before .loop .j ≡ 0 = omega arith in rw e at (c .before .loop .inv .1)

@@ -1,19 +1,16 @@
 -- The first j places of the part are empty and no other part has changed.
-use mathlib.Core.Path.{_≡_, refl, _∙_}
-use Prim.Native.Nat.{ℕ, _≤_, _*_, _<_, _-_}
+use mathlib.Core.Path.{_≡_, refl}
+use Prim.Native.Nat.{_≤_, _-_}
 use native.Mathlib.Omega.{arith}
-use lib.ListN.{length, length-set}
-use Rattle.places.specs.Places.{part}
-use Rattle.places.proofs.Parts.{part-other}
 use Rattle.places.proofs.Emptied.{Emptied, emptied-none, emptied-more}
-use Rattle.book.specs.State.{symbols, ordersEach, noOrder, ordersIn}
-use Rattle.book.proofs.Sizes.{orders-size}
+use Rattle.book.specs.State.{ordersEach, noOrder}
+use Rattle.book.proofs.Sizes.{orders-reach}
 use borrow.Author.Needs.{needs}
 use Rattle.book.proofs.Book.empty.Statement.{statement}
 use Rattle.book.proofs.Book.empty.Tie as tie
 
 abbrev Inv-loop : tie.InvT-loop
-Inv-loop self k base none orders₀ j₀ orders j = (j ≤ ordersEach) × (length orders ≡ symbols * ordersEach) × Emptied ordersEach k noOrder orders j × ((m : ℕ) → (m ≡ k → ⊥) → part ordersEach m orders ≡ ordersIn self m)
+Inv-loop self k base none orders₀ j₀ orders j = (j ≤ ordersEach) × Emptied ordersEach k noOrder (self .orders) orders j
 
 abbrev μ-loop : tie.MeasureT-loop
 μ-loop self k base none orders₀ j₀ orders j = ordersEach - j
@@ -25,9 +22,7 @@ no-order-requires : tie.Need-no-order-requires Inv-loop μ-loop
 no-order-requires c κs = search needs
 
 loop-holds : tie.Need-loop-holds Inv-loop μ-loop
-loop-holds c =
-    let s = c .before .before in
-    (omega arith, orders-size (s .args .self) _ (s .good .0), emptied-none ordersEach (s .args .k) noOrder (s .args .self .orders), λ m n. refl)
+loop-holds c = (omega arith, emptied-none ordersEach (c .before .before .args .k) noOrder (c .before .before .args .self .orders))
 
 add-i : tie.Need-add-i Inv-loop μ-loop
 add-i c = search needs
@@ -46,21 +41,16 @@ loop-less c = search needs
 
 loop-again : tie.Need-loop-again Inv-loop μ-loop
 loop-again c =
-    let a = c .before .before .before .before .args in
+    let s = c .before .before .before .before in
     let p = c .before .loop in
-    let k-in : a .k < symbols = c .before .before .before .before .pre in
-    rw (c .before .before .before .no-order .ensures) (
-      omega arith,
-      length-set (p .orders) _ noOrder ∙ p .inv .1,
-      emptied-more ordersEach (a .k) noOrder (p .orders) (p .j) (c .loop-test .taken) (omega (arith, p .inv .1)) (p .inv .2),
-      λ m n. part-other ordersEach (a .k) (p .orders) (p .j) noOrder m (c .loop-test .taken) n ∙ p .inv .3 m n,
-    )
+    rw (c .before .before .before .no-order .ensures)
+    (omega arith, emptied-more ordersEach (s .args .k) noOrder (s .args .self .orders) (p .orders) (p .j) (c .loop-test .taken) (orders-reach (s .args .self) _ (s .good .0) _ (s .pre)) (p .inv .1))
 
 returns : tie.Need-returns Inv-loop μ-loop
 returns c =
     let p = c .before .loop in
     let e : p .j ≡ ordersEach = omega arith in
-    record { heads = refl; trades = refl; empty = (rw e at (p .inv .2)); others = p .inv .3 }
+    record { heads = refl; trades = refl; empty = (rw e at (p .inv .1 .empty)); others = p .inv .1 .others }
 
 pub empty-spec : {M : Type 1} → statement M
 empty-spec =

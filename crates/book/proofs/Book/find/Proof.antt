@@ -6,7 +6,7 @@ use Rattle.places.specs.Places.{has}
 use Rattle.places.proofs.Searching.{Passed, passed-none}
 use Rattle.places.proofs.PartSearch.{searched-more, found-here, found-nowhere}
 use Rattle.book.specs.State.{ordersEach, noOrder, orderNumber, orderLive, ordersIn}
-use Rattle.book.proofs.Sizes.{orders-size}
+use Rattle.book.proofs.Sizes.{orders-reach}
 use borrow.Author.Needs.{needs}
 use Rattle.book.proofs.Book.find.Statement.{statement}
 use Rattle.book.proofs.Book.find.Tie as tie
@@ -44,20 +44,17 @@ loop-less c = search needs
 loop-again : tie.Need-loop-again Inv-loop μ-loop
 loop-again c =
     let s = c .before .before .before .before .before in
-    let len = orders-size (s .args .t1) _ (s .good .0) in
-    (omega arith, searched-more ordersEach (s .args .k) (s .args .t1 .orders) noOrder (omega (arith, s .pre)) (c .before .before .before .before .loop .j) _ (c .before .before .before .before .loop .inv .1) (omega arith) (sym (c .before .is-order .ensures) ∙ c .if2 .left))
+    (omega arith, searched-more ordersEach (s .args .k) (s .args .t1 .orders) noOrder (orders-reach (s .args .t1) _ (s .good .0) _ (s .pre)) (c .before .before .before .before .loop .j) _ (c .before .before .before .before .loop .inv .1) (omega arith) (sym (c .before .is-order .ensures) ∙ c .if2 .left))
 
 returns : tie.Need-returns Inv-loop μ-loop
 returns c =
     let s = c .before .before in
-    let len = orders-size (s .args .t1) _ (s .good .0) in
-    found-nowhere ordersEach (s .args .k) (s .args .t1 .orders) noOrder (omega (arith, s .pre)) (c .before .loop .j) orderNumber orderLive _ (c .before .loop .inv .0) (c .if1 .taken) (c .before .loop .inv .1)
+    found-nowhere ordersEach (s .args .k) (s .args .t1 .orders) noOrder (orders-reach (s .args .t1) _ (s .good .0) _ (s .pre)) (c .before .loop .j) orderNumber orderLive _ (c .before .loop .inv .0) (c .if1 .taken) (c .before .loop .inv .1)
 
 returns-2 : tie.Need-returns-2 Inv-loop μ-loop
 returns-2 c =
     let s = c .before .before .before .before .before in
-    let len = orders-size (s .args .t1) _ (s .good .0) in
-    found-here ordersEach (s .args .k) (s .args .t1 .orders) noOrder (omega (arith, s .pre)) (c .before .before .before .before .loop .j) orderNumber orderLive _ (omega arith) (sym (c .before .is-order .ensures) ∙ c .if2 .taken)
+    found-here ordersEach (s .args .k) (s .args .t1 .orders) noOrder (orders-reach (s .args .t1) _ (s .good .0) _ (s .pre)) (c .before .before .before .before .loop .j) orderNumber orderLive _ (omega arith) (sym (c .before .is-order .ensures) ∙ c .if2 .taken)
 
 pub find-spec : {M : Type 1} → statement M
 find-spec =

@@ -6,7 +6,7 @@ use Rattle.places.specs.Places.{has}
 use Rattle.places.proofs.Searching.{Passed, passed-none}
 use Rattle.places.proofs.PartSearch.{searched-more, found-here, found-nowhere}
 use Rattle.book.specs.State.{tradesEach, noTrade, tradeNumber, tradeLive, tradesIn}
-use Rattle.book.proofs.Sizes.{trades-size}
+use Rattle.book.proofs.Sizes.{trades-reach}
 use borrow.Author.Needs.{needs}
 use Rattle.book.proofs.Book.find_trade.Statement.{statement}
 use Rattle.book.proofs.Book.find_trade.Tie as tie
@@ -44,20 +44,17 @@ loop-less c = search needs
 loop-again : tie.Need-loop-again Inv-loop μ-loop
 loop-again c =
     let s = c .before .before .before .before .before in
-    let len = trades-size (s .args .t1) _ (s .good .0) in
-    (omega arith, searched-more tradesEach (s .args .k) (s .args .t1 .trades) noTrade (omega (arith, s .pre)) (c .before .before .before .before .loop .j) _ (c .before .before .before .before .loop .inv .1) (omega arith) (sym (c .before .is-trade .ensures) ∙ c .if2 .left))
+    (omega arith, searched-more tradesEach (s .args .k) (s .args .t1 .trades) noTrade (trades-reach (s .args .t1) _ (s .good .0) _ (s .pre)) (c .before .before .before .before .loop .j) _ (c .before .before .before .before .loop .inv .1) (omega arith) (sym (c .before .is-trade .ensures) ∙ c .if2 .left))
 
 returns : tie.Need-returns Inv-loop μ-loop
 returns c =
     let s = c .before .before in
-    let len = trades-size (s .args .t1) _ (s .good .0) in
-    found-nowhere tradesEach (s .args .k) (s .args .t1 .trades) noTrade (omega (arith, s .pre)) (c .before .loop .j) tradeNumber tradeLive _ (c .before .loop .inv .0) (c .if1 .taken) (c .before .loop .inv .1)
+    found-nowhere tradesEach (s .args .k) (s .args .t1 .trades) noTrade (trades-reach (s .args .t1) _ (s .good .0) _ (s .pre)) (c .before .loop .j) tradeNumber tradeLive _ (c .before .loop .inv .0) (c .if1 .taken) (c .before .loop .inv .1)
 
 returns-2 : tie.Need-returns-2 Inv-loop μ-loop
 returns-2 c =
     let s = c .before .before .before .before .before in
-    let len = trades-size (s .args .t1) _ (s .good .0) in
-    found-here tradesEach (s .args .k) (s .args .t1 .trades) noTrade (omega (arith, s .pre)) (c .before .before .before .before .loop .j) tradeNumber tradeLive _ (omega arith) (sym (c .before .is-trade .ensures) ∙ c .if2 .taken)
+    found-here tradesEach (s .args .k) (s .args .t1 .trades) noTrade (trades-reach (s .args .t1) _ (s .good .0) _ (s .pre)) (c .before .before .before .before .loop .j) tradeNumber tradeLive _ (omega arith) (sym (c .before .is-trade .ensures) ∙ c .if2 .taken)
 
 pub find-trade-spec : {M : Type 1} → statement M
 find-trade-spec =

@@ -4,7 +4,7 @@ use native.Mathlib.Omega.{arith}
 use lib.ListN.{length, List·getD-eq-default}
 use Rattle.places.proofs.Parts.{part-length, part-get}
 use Rattle.book.specs.State.{ordersEach, noOrder, ordersIn}
-use Rattle.book.proofs.Sizes.{orders-size}
+use Rattle.book.proofs.Sizes.{orders-reach}
 use borrow.Author.Needs.{needs}
 use Rattle.book.proofs.Book.order_at.Statement.{statement}
 use Rattle.book.proofs.Book.order_at.Tie as tie
@@ -16,8 +16,7 @@ returns : tie.Need-returns
 returns c =
     let s = c .before .before in
     let a = s .args in
-    let len = orders-size (a .t1) _ (s .good .0) in
-    let full : length (ordersIn (a .t1) (a .k)) ≡ ordersEach = part-length ordersEach (a .k) (a .t1 .orders) (omega arith) in
+    let full : length (ordersIn (a .t1) (a .k)) ≡ ordersEach = part-length ordersEach (a .k) (a .t1 .orders) (orders-reach (a .t1) _ (s .good .0) _ (s .pre)) in
     c .no-order .ensures ∙ sym (List·getD-eq-default (ordersIn (a .t1) (a .k)) noOrder (omega arith))
 
 mul-at : tie.Need-mul-at

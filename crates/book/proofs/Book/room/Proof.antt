@@ -6,7 +6,7 @@ use native.Mathlib.Omega.{arith}
 use Rattle.places.proofs.Searching.{Passed, passed-none}
 use Rattle.places.proofs.PartSearch.{searched-more, free-here, free-nowhere}
 use Rattle.book.specs.State.{ordersEach, noOrder, orderLive, ordersIn}
-use Rattle.book.proofs.Sizes.{orders-size}
+use Rattle.book.proofs.Sizes.{orders-reach}
 use borrow.Author.Needs.{needs}
 use Rattle.book.proofs.Book.room.Statement.{statement}
 use Rattle.book.proofs.Book.room.Tie as tie
@@ -41,20 +41,17 @@ loop-less c = search needs
 loop-again : tie.Need-loop-again Inv-loop μ-loop
 loop-again c =
     let s = c .before .before .before .before in
-    let len = orders-size (s .args .t1) _ (s .good .0) in
-    (omega arith, searched-more ordersEach (s .args .k) (s .args .t1 .orders) noOrder (omega (arith, s .pre)) (c .before .before .before .loop .j) _ (c .before .before .before .loop .inv .1) (omega arith) (ap not (c .if2 .taken)))
+    (omega arith, searched-more ordersEach (s .args .k) (s .args .t1 .orders) noOrder (orders-reach (s .args .t1) _ (s .good .0) _ (s .pre)) (c .before .before .before .loop .j) _ (c .before .before .before .loop .inv .1) (omega arith) (ap not (c .if2 .taken)))
 
 returns : tie.Need-returns Inv-loop μ-loop
 returns c =
     let s = c .before .before in
-    let len = orders-size (s .args .t1) _ (s .good .0) in
-    free-nowhere ordersEach (s .args .k) (s .args .t1 .orders) noOrder (omega (arith, s .pre)) (c .before .loop .j) orderLive (c .before .loop .inv .0) (c .if1 .taken) (c .before .loop .inv .1)
+    free-nowhere ordersEach (s .args .k) (s .args .t1 .orders) noOrder (orders-reach (s .args .t1) _ (s .good .0) _ (s .pre)) (c .before .loop .j) orderLive (c .before .loop .inv .0) (c .if1 .taken) (c .before .loop .inv .1)
 
 returns-2 : tie.Need-returns-2 Inv-loop μ-loop
 returns-2 c =
     let s = c .before .before .before .before in
-    let len = orders-size (s .args .t1) _ (s .good .0) in
-    free-here ordersEach (s .args .k) (s .args .t1 .orders) noOrder (omega (arith, s .pre)) (c .before .before .before .loop .j) orderLive (omega arith) (c .if2 .left)
+    free-here ordersEach (s .args .k) (s .args .t1 .orders) noOrder (orders-reach (s .args .t1) _ (s .good .0) _ (s .pre)) (c .before .before .before .loop .j) orderLive (omega arith) (c .if2 .left)
 
 pub room-spec : {M : Type 1} → statement M
 room-spec =

@@ -1,4 +1,4 @@
--- What is left of the walk from here gives what the whole walk gives from the start.
+-- What is left of the walk from here gives what the walk from the start gives.
 use Prim.Native.Nat.{_-_}
 use native.Mathlib.Omega.{arith}
 use denote.Ref.{now}
@@ -23,14 +23,14 @@ apply-requires c κs = search needs
 loop-less : tie.Need-loop-less Inv-loop μ-loop
 loop-less c =
     let p = c .before .before .before .loop in
-    let f = goes-on (now (c .before .before .before .before .before .args .s)) (c .before .before .before .before .before .args .at) (c .before .before .before .before .before .args .self) (p .here) (p .book) _ (c .before .before .apply .ensures) (c .if1 .left) in
+    let f = goes-on (p .book) (now (c .before .before .before .before .before .args .s)) (p .here) _ (c .before .before .apply .ensures) (c .if1 .left) in
     omega (arith, f .0, f .1)
 
 loop-again : tie.Need-loop-again Inv-loop μ-loop
-loop-again c = left-on _ _ _ _ _ _ (c .before .before .apply .ensures) (c .if1 .left) (c .before .before .before .loop .inv)
+loop-again c = left-on _ _ _ _ (c .before .before .apply .ensures) _ _ (c .if1 .left) (c .before .before .before .loop .inv)
 
 returns : tie.Need-returns Inv-loop μ-loop
-returns c = left-end _ _ _ _ _ _ (c .before .before .apply .ensures) (c .if1 .taken) (c .before .before .before .loop .inv)
+returns c = left-end _ _ _ _ (c .before .before .apply .ensures) _ _ (c .if1 .taken) (c .before .before .before .loop .inv)
 
 pub run-spec : {M : Type 1} → statement M
 run-spec =

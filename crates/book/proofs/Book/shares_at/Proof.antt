@@ -1,14 +1,13 @@
 -- Going down, the sum so far is that of the places passed, and each adds at most a volume.
 use mathlib.Core.Path.{_≡_, sym}
-use Prim.Native.Nat.{ℕ, _≤_, _<_, _+_, _*_, _-_}
+use Prim.Native.Nat.{_≤_, _+_, _*_}
 use native.Mathlib.Omega.{arith}
-use lib.ListN.{length, drop}
+use lib.ListN.{drop}
 use Rattle.places.specs.Places.{sumBy}
-use Rattle.places.proofs.Parts.{part-length, part-get}
-use Rattle.places.proofs.Sums.{sum-down, sum-end}
+use Rattle.places.proofs.Sums.{part-sum-end, part-sum-down}
 use Rattle.book.specs.State.{ordersEach, noOrder, ordersIn}
 use Rattle.book.specs.Quote.{sharesAt}
-use Rattle.book.proofs.Sizes.{orders-size}
+use Rattle.book.proofs.Sizes.{orders-reach}
 use borrow.Author.Needs.{needs}
 use Rattle.book.proofs.Book.shares_at.Statement.{statement}
 use Rattle.book.proofs.Book.shares_at.Tie as tie
@@ -23,11 +22,7 @@ mul-base : tie.Need-mul-base Inv-loop μ-loop
 mul-base c = search needs
 
 loop-holds : tie.Need-loop-holds Inv-loop μ-loop
-loop-holds c =
-    let a = c .args in
-    let len = orders-size (a .t1) _ (c .good .0) in
-    let full : length (ordersIn (a .t1) (a .k)) ≡ ordersEach = part-length ordersEach (a .k) (a .t1 .orders) (omega arith) in
-    (omega arith, sym (sum-end (sharesAt (a .buy) (a .price)) (ordersIn (a .t1) (a .k)) ordersEach full), omega arith)
+loop-holds c = (omega arith, sym (part-sum-end ordersEach (c .args .k) (c .args .t1 .orders) (orders-reach (c .args .t1) _ (c .good .0) _ (c .pre)) (sharesAt (c .args .buy) (c .args .price))), omega arith)
 
 sub-j : tie.Need-sub-j Inv-loop μ-loop
 sub-j c = search needs
@@ -55,16 +50,10 @@ loop-less c = search needs
 
 loop-again : tie.Need-loop-again Inv-loop μ-loop
 loop-again c =
-    let a = c .before .before .before .before .args in
-    let len = orders-size (a .t1) _ (c .before .before .before .before .good .0) in
-    let full : length (ordersIn (a .t1) (a .k)) ≡ ordersEach = part-length ordersEach (a .k) (a .t1 .orders) (omega arith) in
+    let s = c .before .before .before .before in
     let l = c .before .before .before .loop in
-    let i : ℕ = l .j - 1 in
-    let e : i + 1 ≡ l .j = omega arith in
-    let below : i < ordersEach = omega arith in
-    let d = sum-down (sharesAt (a .buy) (a .price)) (ordersIn (a .t1) (a .k)) i noOrder (omega arith) in
-    let d' = (rw (part-get ordersEach (a .k) (a .t1 .orders) i noOrder below, e) at d) in
-    (omega arith, omega (arith, c .shares .ensures, d'), omega arith)
+    let d = part-sum-down ordersEach (s .args .k) (s .args .t1 .orders) (orders-reach (s .args .t1) _ (s .good .0) _ (s .pre)) (sharesAt (s .args .buy) (s .args .price)) noOrder (l .j) (omega arith) (l .inv .0) in
+    (omega arith, omega (arith, c .shares .ensures, d), omega arith)
 
 returns : tie.Need-returns Inv-loop μ-loop
 returns c = let e : c .before .loop .j ≡ 0 = omega arith in rw e at (c .before .loop .inv .1)

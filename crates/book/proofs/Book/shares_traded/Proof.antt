@@ -1,17 +1,16 @@
 -- Going down, the sum so far is that of the places passed, and each adds at most a volume.
 use mathlib.Core.Bool.{cond}
 use mathlib.Core.Path.{_≡_, sym, _∙_}
-use Prim.Native.Nat.{ℕ, _≤_, _<_, _+_, _*_, _-_}
+use Prim.Native.Nat.{_≤_, _+_, _*_}
 use native.Mathlib.Omega.{arith}
-use lib.ListN.{length, drop}
+use lib.ListN.{drop}
 use Rattle.places.specs.Places.{sumBy}
-use Rattle.places.proofs.Parts.{part-length, part-get}
-use Rattle.places.proofs.Sums.{sum-down, sum-end}
+use Rattle.places.proofs.Sums.{part-sum-end, part-sum-down}
 use Rattle.places.proofs.Living.{sum-in-order}
 use Rattle.book.specs.State.{tradesEach, noTrade, tradeNumber, tradeLive, tradesIn}
 use Rattle.book.specs.Quote.{sharesIn}
 use Rattle.book.specs.declared.Trade.{Trade}
-use Rattle.book.proofs.Sizes.{trades-size}
+use Rattle.book.proofs.Sizes.{trades-reach}
 use borrow.Author.Needs.{needs}
 use Rattle.book.proofs.Book.shares_traded.Statement.{statement}
 use Rattle.book.proofs.Book.shares_traded.Tie as tie
@@ -26,11 +25,7 @@ mul-base : tie.Need-mul-base Inv-loop μ-loop
 mul-base c = search needs
 
 loop-holds : tie.Need-loop-holds Inv-loop μ-loop
-loop-holds c =
-    let a = c .args in
-    let len = trades-size (a .t1) _ (c .good .0) in
-    let full : length (tradesIn (a .t1) (a .k)) ≡ tradesEach = part-length tradesEach (a .k) (a .t1 .trades) (omega arith) in
-    (omega arith, sym (sum-end (λ (t : Trade). cond (t .live) (t .volume) 0) (tradesIn (a .t1) (a .k)) tradesEach full), omega arith)
+loop-holds c = (omega arith, sym (part-sum-end tradesEach (c .args .k) (c .args .t1 .trades) (trades-reach (c .args .t1) _ (c .good .0) _ (c .pre)) (λ (t : Trade). cond (t .live) (t .volume) 0)), omega arith)
 
 sub-j : tie.Need-sub-j Inv-loop μ-loop
 sub-j c = search needs
@@ -58,16 +53,10 @@ loop-less c = search needs
 
 loop-again : tie.Need-loop-again Inv-loop μ-loop
 loop-again c =
-    let a = c .before .before .before .before .args in
-    let len = trades-size (a .t1) _ (c .before .before .before .before .good .0) in
-    let full : length (tradesIn (a .t1) (a .k)) ≡ tradesEach = part-length tradesEach (a .k) (a .t1 .trades) (omega arith) in
+    let s = c .before .before .before .before in
     let l = c .before .before .before .loop in
-    let i : ℕ = l .j - 1 in
-    let e : i + 1 ≡ l .j = omega arith in
-    let below : i < tradesEach = omega arith in
-    let d = sum-down (λ (t : Trade). cond (t .live) (t .volume) 0) (tradesIn (a .t1) (a .k)) i noTrade (omega arith) in
-    let d' = (rw (part-get tradesEach (a .k) (a .t1 .trades) i noTrade below, e) at d) in
-    (omega arith, omega (arith, c .kept-volume .ensures, d'), omega arith)
+    let d = part-sum-down tradesEach (s .args .k) (s .args .t1 .trades) (trades-reach (s .args .t1) _ (s .good .0) _ (s .pre)) (λ (t : Trade). cond (t .live) (t .volume) 0) noTrade (l .j) (omega arith) (l .inv .0) in
+    (omega arith, omega (arith, c .kept-volume .ensures, d), omega arith)
 
 returns : tie.Need-returns Inv-loop μ-loop
 returns c =

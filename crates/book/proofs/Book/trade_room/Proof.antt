@@ -6,7 +6,7 @@ use native.Mathlib.Omega.{arith}
 use Rattle.places.proofs.Searching.{Passed, passed-none}
 use Rattle.places.proofs.PartSearch.{searched-more, free-here, free-nowhere}
 use Rattle.book.specs.State.{tradesEach, noTrade, tradeLive, tradesIn}
-use Rattle.book.proofs.Sizes.{trades-size}
+use Rattle.book.proofs.Sizes.{trades-reach}
 use borrow.Author.Needs.{needs}
 use Rattle.book.proofs.Book.trade_room.Statement.{statement}
 use Rattle.book.proofs.Book.trade_room.Tie as tie
@@ -41,20 +41,17 @@ loop-less c = search needs
 loop-again : tie.Need-loop-again Inv-loop μ-loop
 loop-again c =
     let s = c .before .before .before .before in
-    let len = trades-size (s .args .t1) _ (s .good .0) in
-    (omega arith, searched-more tradesEach (s .args .k) (s .args .t1 .trades) noTrade (omega (arith, s .pre)) (c .before .before .before .loop .j) _ (c .before .before .before .loop .inv .1) (omega arith) (ap not (c .if2 .taken)))
+    (omega arith, searched-more tradesEach (s .args .k) (s .args .t1 .trades) noTrade (trades-reach (s .args .t1) _ (s .good .0) _ (s .pre)) (c .before .before .before .loop .j) _ (c .before .before .before .loop .inv .1) (omega arith) (ap not (c .if2 .taken)))
 
 returns : tie.Need-returns Inv-loop μ-loop
 returns c =
     let s = c .before .before in
-    let len = trades-size (s .args .t1) _ (s .good .0) in
-    free-nowhere tradesEach (s .args .k) (s .args .t1 .trades) noTrade (omega (arith, s .pre)) (c .before .loop .j) tradeLive (c .before .loop .inv .0) (c .if1 .taken) (c .before .loop .inv .1)
+    free-nowhere tradesEach (s .args .k) (s .args .t1 .trades) noTrade (trades-reach (s .args .t1) _ (s .good .0) _ (s .pre)) (c .before .loop .j) tradeLive (c .before .loop .inv .0) (c .if1 .taken) (c .before .loop .inv .1)
 
 returns-2 : tie.Need-returns-2 Inv-loop μ-loop
 returns-2 c =
     let s = c .before .before .before .before in
-    let len = trades-size (s .args .t1) _ (s .good .0) in
-    free-here tradesEach (s .args .k) (s .args .t1 .trades) noTrade (omega (arith, s .pre)) (c .before .before .before .loop .j) tradeLive (omega arith) (c .if2 .left)
+    free-here tradesEach (s .args .k) (s .args .t1 .trades) noTrade (trades-reach (s .args .t1) _ (s .good .0) _ (s .pre)) (c .before .before .before .loop .j) tradeLive (omega arith) (c .if2 .left)
 
 pub trade-room-spec : {M : Type 1} → statement M
 trade-room-spec =

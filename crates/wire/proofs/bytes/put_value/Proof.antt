@@ -1,5 +1,5 @@
 -- After some turns the bytes passed, those still to come and what lies behind are the result (`littleEndian-next`).
-use Prim.Native.Nat.{_+_, _-_, _≤_, _%_}
+use Prim.Native.Nat.{_-_, _≤_, _%_}
 use mathlib.Core.Path.{_≡_, _∙_, refl}
 use mathlib.Core.List.{_++_}
 use native.Mathlib.Omega.{arith}

@@ -1,24 +1,22 @@
--- What is still to be stored over what is there now comes to all of it stored over the buffer as it was (`stored-next`).
-use Prim.Native.Nat.{_+_, _-_, _≤_}
-use mathlib.Core.Path.{_≡_, sym, ap, _∙_, refl}
+-- What is still to be stored over what is there now comes to all of it stored over the buffer as it was (`Storing`).
+use Prim.Native.Nat.{_-_, _≤_}
+use mathlib.Core.Path.{_≡_, refl}
 use native.Mathlib.Omega.{arith}
-use lib.ListN.{length, getD, drop}
+use lib.ListN.{length}
 use borrow.Author.Needs.{needs}
 use denote.Ref.{now}
-use Rattle.wire.specs.Bytes.{stored, Rising}
-use Rattle.wire.proofs.Laying.{stored-next, rising-next, stored-over}
+use Rattle.wire.proofs.Laying.{rising-next, Storing, storing-next, storing-over}
 use Rattle.wire.proofs.bytes.put_values.Statement.{statement}
 use Rattle.wire.proofs.bytes.put_values.Tie as tie
 
 abbrev Inv-loop : tie.InvT-loop
-Inv-loop out₀ ends v a₀ i₀ out a i = (i ≤ 15) × (length out ≡ length out₀) × Rising a (drop i ends) (length out₀)
-    × (stored a (drop i ends) (drop i v) out ≡ stored 0 ends v out₀)
+Inv-loop out₀ ends v a₀ i₀ out a i = (i ≤ 15) × Storing out₀ ends v out a i
 
 abbrev μ-loop : tie.MeasureT-loop
 μ-loop out₀ ends v a₀ i₀ out a i = 15 - i
 
 loop-holds : tie.Need-loop-holds Inv-loop μ-loop
-loop-holds c = (omega arith, refl, c .before .pre, refl)
+loop-holds c = (omega arith, record { long = refl; rises = c .before .pre; rest = refl })
 
 mul-e : tie.Need-mul-e Inv-loop μ-loop
 mul-e c = search needs
@@ -37,8 +35,8 @@ put-value-requires c κs =
     let k = c .before .before in
     let a = k .before .before .args in
     let long : length (a .t2) ≡ 15 = search needs in
-    let r = rising-next (k .loop .a) (k .loop .i) (length (now (a .out))) (a .t2) (omega arith) (k .loop .inv .2) in
-    (r .0, omega (arith, r .1, k .loop .inv .1))
+    let r = rising-next (k .loop .a) (k .loop .i) (length (now (a .out))) (a .t2) (omega arith) (k .loop .inv .1 .rises) in
+    (r .0, omega (arith, r .1, k .loop .inv .1 .long))
 
 add-i : tie.Need-add-i Inv-loop μ-loop
 add-i c = search needs
@@ -53,23 +51,17 @@ loop-again c =
     let p = c .before .before in
     let long : length (a .t2) ≡ 15 = search needs in
     let long₃ : length (a .t3) ≡ 15 = search needs in
-    let r = rising-next (k .loop .a) (k .loop .i) (length (now (a .out))) (a .t2) (omega arith) (k .loop .inv .2) in (
-      omega arith,
-      p .put-value .kept .0 ∙ k .loop .inv .1,
-      r .2,
-      ap (stored (getD (a .t2) (k .loop .i) 0) (drop (k .loop .i + 1) (a .t2)) (drop (k .loop .i + 1) (a .t3))) (p .put-value .ensures)
-          ∙ sym (stored-next (k .loop .a) (k .loop .i) (a .t2) (a .t3) (k .loop .out) (omega arith) (omega arith)) ∙ k .loop .inv .3,
-    )
+    (omega arith, storing-next (now (a .out)) (a .t2) (a .t3) (k .loop .out) _ (k .loop .a) (k .loop .i) (omega arith) (omega arith) (p .put-value .kept .0) (p .put-value .ensures) (k .loop .inv .1))
 
 same-length : tie.Need-same-length Inv-loop μ-loop
-same-length c = c .before .loop .inv .1
+same-length c = c .before .loop .inv .1 .long
 
 returns : tie.Need-returns Inv-loop μ-loop
 returns c =
     let k = c .before in
     let a = k .before .before .args in
     let long : length (a .t2) ≡ 15 = search needs in
-    sym (stored-over (k .loop .a) (k .loop .i) (a .t2) (a .t3) (k .loop .out) (omega arith)) ∙ k .loop .inv .3
+    storing-over (now (a .out)) (a .t2) (a .t3) (k .loop .out) (k .loop .a) (k .loop .i) (omega arith) (k .loop .inv .1)
 
 pub put-values-spec : {M : Type 1} → statement M
 put-values-spec =

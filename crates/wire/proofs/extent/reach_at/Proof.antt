@@ -4,7 +4,6 @@ use Prim.Native.Nat.{ℕ}
 use lib.ListN.{take}
 use lib.Seq.{take-length}
 use mathlib.Core.Path.{sym, ap, _∙_}
-use Prim.Native.Nat.{_-_}
 use native.Mathlib.Omega.{arith}
 use denote.Ref.{now}
 use lib.ListN.{length-drop, drop}
