@@ -17,7 +17,7 @@ use Rattle.wire.specs.Reading.{answeredAs}
 use Rattle.wire.specs.declared.Answer.{Answer}
 use Rattle.wire.specs.declared.Message.{Message}
 use Rattle.wire.proofs.Answer as answers
-use Rattle.book.specs.State.{symbols, numbers, Symbol, View, headAt, ordersAt, symbolAt, seen, view, placeOf, Wf}
+use Rattle.book.specs.State.{symbols, numbers, View, headAt, ordersAt, symbolAt, seen, view, placeOf, Wf}
 use Rattle.book.specs.Rules.{applyTo}
 use Rattle.book.specs.Record.{dealOf}
 use Rattle.book.specs.Step.{staled, enacted, meets, Next, refusing, put, actOn, meant, stepOn}
@@ -55,34 +55,34 @@ module _ (b : Book) (a : Act Effect) where
   act-at k e h = rw (registered-at b (indexOf a) k e h .there, ← e)
 
 -- a symbol that stays as it was leaves the view as it was
-pub put-same : (b : Book) (k : ℕ) (a : ℕ) → k < symbols → headAt b k .used ≡ true → put (view b) k (record { symbol = symbolAt b k; answer = a }) ≡ refusing (view b) a
+put-same : (b : Book) (k : ℕ) (a : ℕ) → k < symbols → headAt b k .used ≡ true → put (view b) k (record { symbol = symbolAt b k; answer = a }) ≡ refusing (view b) a
 put-same b k a h u =
     let e : getD (view b) k none ≡ some (symbolAt b k) = view-at b k h ∙ ap (λ (t : Bool). seen t (symbolAt b k)) u in
     ap (λ (v : View). refusing v a) (ap (set (view b) k) (sym e) ∙ set-getD (view b) k none)
 
 -- ---- the turn of a number
 module _ (x : Fit (List Order)) where
-  pub turned-away : (stale below above : Bool) → (turnAnswer stale below above ≡ 7 → ⊥) → (turnAnswer stale below above ≡ 0 → ⊥) → ruled stale below above x ≡ unchanged (turnAnswer stale below above)
+  turned-away : (stale below above : Bool) → (turnAnswer stale below above ≡ 7 → ⊥) → (turnAnswer stale below above ≡ 0 → ⊥) → ruled stale below above x ≡ unchanged (turnAnswer stale below above)
   unfolding ruled
   turned-away true below above p q = refl
   turned-away false true above p q = refl
   turned-away false false true p q = absurd (p refl)
   turned-away false false false p q = absurd (q refl)
 
-  pub turned-stale : (stale below above : Bool) → turnAnswer stale below above ≡ 7 → ruled stale below above x ≡ made-stale 7
+  turned-stale : (stale below above : Bool) → turnAnswer stale below above ≡ 7 → ruled stale below above x ≡ made-stale 7
   unfolding ruled
   turned-stale true below above p = absurd (omega (arith, p))
   turned-stale false true above p = absurd (omega (arith, p))
   turned-stale false false true p = refl
   turned-stale false false false p = absurd (omega (arith, p))
 
-  pub in-turn : (stale below above : Bool) → turnAnswer stale below above ≡ 0 → ruled stale below above x ≡ ruled false false false x
+  in-turn : (stale below above : Bool) → turnAnswer stale below above ≡ 0 → ruled stale below above x ≡ ruled false false false x
   in-turn true below above p = absurd (omega (arith, p))
   in-turn false true above p = absurd (omega (arith, p))
   in-turn false false true p = absurd (omega (arith, p))
   in-turn false false false p = refl
 
-pub turn-number : (stale : Bool) (n expected : ℕ) → turnAnswer stale (ltb n expected) (ltb expected n) ≡ 0 → expected ≡ n
+turn-number : (stale : Bool) (n expected : ℕ) → turnAnswer stale (ltb n expected) (ltb expected n) ≡ 0 → expected ≡ n
 turn-number stale n expected = go stale (ltb n expected) (ltb expected n) refl refl
   where
     go : (s t u : Bool) → ltb n expected ≡ t → ltb expected n ≡ u → turnAnswer s t u ≡ 0 → expected ≡ n

@@ -30,16 +30,16 @@ pub record SameName (s t : Symbol) : Type 0 where
   pub name : t .name ≡ s .name
   pub scale : t .scale ≡ s .scale
 
-enacted-keeps : (s : Symbol) (d : Deal) (r : Ruling (List Order)) → SameName s (enacted s d r .symbol)
+enacted-keeps-name : (s : Symbol) (d : Deal) (r : Ruling (List Order)) → SameName s (enacted s d r .symbol)
 unfolding enacted
-enacted-keeps s d (unchanged a) = record { index = refl; name = refl; scale = refl }
-enacted-keeps s d (made-stale a) = record { index = refl; name = refl; scale = refl }
-enacted-keeps s d (applied os) = record { index = refl; name = refl; scale = refl }
+enacted-keeps-name s d (unchanged a) = record { index = refl; name = refl; scale = refl }
+enacted-keeps-name s d (made-stale a) = record { index = refl; name = refl; scale = refl }
+enacted-keeps-name s d (applied os) = record { index = refl; name = refl; scale = refl }
 
-pub meets-keeps : (s : Symbol) (a : Act Effect) → SameName s (meets s a .symbol)
+meets-keeps-name : (s : Symbol) (a : Act Effect) → SameName s (meets s a .symbol)
 unfolding meets
-meets-keeps s (clear index next) = record { index = refl; name = refl; scale = refl }
-meets-keeps s (numbered index n e) = enacted-keeps s (dealOf e) _
+meets-keeps-name s (clear index next) = record { index = refl; name = refl; scale = refl }
+meets-keeps-name s (numbered index n e) = enacted-keeps-name s (dealOf e) _
 
 -- ---- a symbol in a view
 pub place-within : (v : View) (index : ℕ) (s : Symbol) → symbolIn index v ≡ some s → placeOf index v < length v
@@ -59,11 +59,11 @@ module _ (v : View) (index : ℕ) (s t : Symbol) (e : symbolIn index v ≡ some 
   abbrev after : View
   after = set v (placeOf index v) (some t)
 
-  pub places-kept : (i : ℕ) → placeOf i after ≡ placeOf i v
+  places-kept : (i : ℕ) → placeOf i after ≡ placeOf i v
   unfolding symbolIn placeOf
   places-kept i = first-set (hasIndex i) v (placeOf index v) (some t) none (place-within v index s e) (rw (e, same))
 
-  pub put-own : symbolIn index after ≡ some t
+  put-own : symbolIn index after ≡ some t
   unfolding symbolIn
   put-own = rw (places-kept index) (getD-set-same v (placeOf index v) (some t) none (place-within v index s e))
 
@@ -72,7 +72,7 @@ module _ (v : View) (index : ℕ) (s t : Symbol) (e : symbolIn index v ≡ some 
   unfolding symbolIn
   apart i ne p = ne (sym (index-of v i s (rw p e)) ∙ index-of v index s e)
 
-  pub put-others : (i : ℕ) → (i ≡ index → ⊥) → symbolIn i after ≡ symbolIn i v
+  put-others : (i : ℕ) → (i ≡ index → ⊥) → symbolIn i after ≡ symbolIn i v
   unfolding symbolIn
   put-others i ne = rw (places-kept i) (getD-set-other v (placeOf index v) (placeOf i v) (some t) none (apart i ne))
 
@@ -84,7 +84,7 @@ module _ (v : View) (a : Act Effect) where
 
   pub own-symbol : (s : Symbol) → symbolIn (indexOf a) v ≡ some s → symbolIn (indexOf a) (actOn v a .view) ≡ some (meets s a .symbol)
   unfolding actOn
-  own-symbol s e = rw e (put-own v (indexOf a) s (meets s a .symbol) e (meets-keeps s a .index))
+  own-symbol s e = rw e (put-own v (indexOf a) s (meets s a .symbol) e (meets-keeps-name s a .index))
 
   -- a message for one symbol changes nothing kept for another
   pub own-symbol-only : (i : ℕ) → (i ≡ indexOf a → ⊥) → symbolIn i (actOn v a .view) ≡ symbolIn i v
@@ -93,7 +93,7 @@ module _ (v : View) (a : Act Effect) where
     where
       go : (x : Option Symbol) → symbolIn (indexOf a) v ≡ x → symbolIn i (actAt v (placeOf (indexOf a) v) (symbolIn (indexOf a) v) a .view) ≡ symbolIn i v
       go none e = rw e
-      go (some s) e = rw e (put-others v (indexOf a) s (meets s a .symbol) e (meets-keeps s a .index) i ne)
+      go (some s) e = rw e (put-others v (indexOf a) s (meets s a .symbol) e (meets-keeps-name s a .index) i ne)
 
 -- ---- what was read: a refusal touches nobody, a message its own symbol
 module _ (v : View) (d : Read) (i : ℕ) (other : (m : Message) → d .outcome ≡ done m → i ≡ indexOf (meant m) → ⊥) where

@@ -4,7 +4,7 @@ use mathlib.Core.List.{List, [], _∷_, List·Memᴰ, List·Memᴰ·head, List·
 use mathlib.Core.Logic.{_⊎_, inl, inr}
 use mathlib.Core.Option.{Option, none, some}
 use mathlib.Core.Path.{_≡_, refl, sym, ap, _∙_}
-use Prim.Native.Nat.{ℕ, _+_, _≤_, max, min}
+use Prim.Native.Nat.{ℕ, _+_, max, min}
 use native.Mathlib.Omega.{arith}
 use lib.Dec.{ltb}
 use lib.ListN.{length}
@@ -184,12 +184,12 @@ module _ (buy : Bool) (os : List Order) (n p v : ℕ) where
       rw (best, sum)
 
 -- an add that is done has its order among the others
-pub record Adds (s t : Symbol) (o : Order) : Type 0 where
+pub record AddsOrder (s t : Symbol) (o : Order) : Type 0 where
   pub orders : t .orders ≡ insert orderNumber o (s .orders)
   pub stale : t .stale ≡ s .stale
 
 add-done : (s : Symbol) (o : Order) (stale below above : Bool) (found : Option Order) (room : Bool) (d : Deal) → enacted s d (ruled stale below above (added (s .orders) o found room)) .answer ≡ 0
-    → Adds s (enacted s d (ruled stale below above (added (s .orders) o found room)) .symbol) o
+    → AddsOrder s (enacted s d (ruled stale below above (added (s .orders) o found room)) .symbol) o
 unfolding enacted ruled
 add-done s o true below above found room d e = absurd (omega (arith, e))
 add-done s o false true above found room d e = absurd (omega (arith, e))
@@ -198,7 +198,7 @@ add-done s o false false false (some x) room d e = absurd (omega (arith, e))
 add-done s o false false false none false d e = absurd (omega (arith, e))
 add-done s o false false false none true d e = record { orders = refl; stale = refl }
 
-meets-adds : (s : Symbol) (index number n : ℕ) (buy : Bool) (p v : ℕ) → meets s (numbered index number (Effect.Add n buy p v)) .answer ≡ 0 → Adds s (meets s (numbered index number (Effect.Add n buy p v)) .symbol) (orderOf n buy p v)
+meets-adds : (s : Symbol) (index number n : ℕ) (buy : Bool) (p v : ℕ) → meets s (numbered index number (Effect.Add n buy p v)) .answer ≡ 0 → AddsOrder s (meets s (numbered index number (Effect.Add n buy p v)) .symbol) (orderOf n buy p v)
 unfolding meets applyTo
 meets-adds s index number n buy p v e = add-done s (orderOf n buy p v) (s .stale) (ltb number (s .expected)) (ltb (s .expected) number) (look orderNumber n (s .orders)) (ltb (length (s .orders)) ordersEach) Deal.Nothing e
 

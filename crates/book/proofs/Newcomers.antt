@@ -9,7 +9,7 @@ use borrow.Author.Tests.{eq-eqb, ne-eqb, ltb-true, ltb-false}
 use lib.Dec.{ltb}
 use lib.ListN.{length, getD, set}
 use lib.Seq.{getD-set-same, getD-set-other}
-use Rattle.places.specs.Places.{first}
+use Rattle.places.specs.Places.{firstWhere}
 use Rattle.places.proofs.Searching.{first-passes, first-set, first-new}
 use Rattle.book.specs.State.{symbols, Symbol, View, hasIndex, isVacant, placeOf, symbolIn, vacancyOf, view, Fresh}
 use Rattle.book.specs.Registering.{newSymbol, registeredIf, bad, registerOf}
@@ -17,7 +17,7 @@ use Rattle.book.specs.declared.Book.{Book}
 
 -- ---- a new state has no symbol
 pub new-unregistered : (b : Book) → Fresh b → (index : ℕ) → symbolIn index (view b) ≡ none
-unfolding symbolIn placeOf first
+unfolding symbolIn placeOf firstWhere
 new-unregistered b f index = rw (f .new-view)
 
 -- ---- registering that is done
@@ -58,16 +58,16 @@ module _ (v : View) (eight : length v ≡ symbols) (index : ℕ) (name : List �
   unfolding symbolIn placeOf
   register-own =
       let a = admits v index name scale done in
-      let at : first (hasIndex index) (set v k (some s)) ≡ k = first-new (hasIndex index) v k (some s) inside (eq-eqb index index refl) (rw eight (a .unknown)) in
+      let at : firstWhere (hasIndex index) (set v k (some s)) ≡ k = first-new (hasIndex index) v k (some s) inside (eq-eqb index index refl) (rw eight (a .unknown)) in
       rw (a .next-view, at) (getD-set-same v k (some s) none inside)
 
   pub register-others : (i : ℕ) → (i ≡ index → ⊥) → symbolIn i (registerOf v index name scale .view) ≡ symbolIn i v
   unfolding symbolIn placeOf
   register-others i ne =
       let a = admits v index name scale done in
-      let at : first (hasIndex i) (set v k (some s)) ≡ first (hasIndex i) v = first-set (hasIndex i) v k (some s) none inside (rw (ne-eqb index i (λ e. ne (sym e)), empty-there)) in
-      rw (a .next-view, at) (getD-set-other v k (first (hasIndex i) v) (some s) none (elsewhere i))
+      let at : firstWhere (hasIndex i) (set v k (some s)) ≡ firstWhere (hasIndex i) v = first-set (hasIndex i) v k (some s) none inside (rw (ne-eqb index i (λ e. ne (sym e)), empty-there)) in
+      rw (a .next-view, at) (getD-set-other v k (firstWhere (hasIndex i) v) (some s) none (elsewhere i))
     where
-      elsewhere : (j : ℕ) → first (hasIndex j) v ≡ k → ⊥
+      elsewhere : (j : ℕ) → firstWhere (hasIndex j) v ≡ k → ⊥
       elsewhere j e =
           false≢true (rw (e, empty-there) at (first-passes (hasIndex j) v none (rw e inside)))

@@ -7,7 +7,7 @@ use Prim.Native.Nat.{ℕ, _<_, _≤_}
 use borrow.Author.Tests.{lt-ltb, le-ltb, ltb-false}
 use lib.Dec.{ltb, eqb}
 use lib.ListN.{length, getD}
-use Rattle.places.specs.Places.{first}
+use Rattle.places.specs.Places.{firstWhere}
 use Rattle.places.proofs.Searching.{first-passes}
 use Rattle.book.specs.State.{symbols, nameBytes, paddedName, Symbol, View, headAt, symbolAt, seen, view, isVacant, placeOf, vacancyOf, Wf}
 use Rattle.book.specs.Step.{refusing, put}
@@ -50,7 +50,7 @@ pub name-short : (name : List ℕ) → nameBad name ≡ false → length name �
 unfolding nameBad
 name-short name = go (eqb (length name) 0) (ltb nameBytes (length name)) refl
   where
-    go : (t u : Bool) → ltb nameBytes (length name) ≡ u → cond t true (cond u true (ltb (first byteBad name) (length name))) ≡ false → length name ≤ nameBytes
+    go : (t u : Bool) → ltb nameBytes (length name) ≡ u → cond t true (cond u true (ltb (firstWhere byteBad name) (length name))) ≡ false → length name ≤ nameBytes
     go true u p e = absurd (true≢false e)
     go false true p e = absurd (true≢false e)
     go false false p e = ltb-false nameBytes (length name) p

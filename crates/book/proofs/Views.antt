@@ -6,7 +6,7 @@ use Prim.Native.Nat.{ℕ, _<_, _≤_}
 use borrow.Author.Tests.{eqb-true, eqb-false}
 use lib.Dec.{eqb}
 use lib.ListN.{length, getD, set, List·getD-eq-default}
-use Rattle.places.specs.Places.{first}
+use Rattle.places.specs.Places.{firstWhere}
 use Rattle.places.proofs.Tables.{length-tabulate, getD-tabulate, tabulate-but-one, first-alike}
 use Rattle.places.proofs.Searching.{first-passes}
 use Rattle.book.specs.State.{symbols, nobody, Symbol, headAt, ordersIn, tradesIn, symbolAt, seen, view, hasIndex, isVacant, placeOf, symbolIn, vacancyOf, Sound, Wf}
@@ -40,12 +40,12 @@ unused-seen true s = refl
 unused-seen false s = refl
 
 module _ (b : Book) (eight : length (b .heads) ≡ symbols) where
-  pub place-is : (index : ℕ) → first (named index) (b .heads) ≡ placeOf index (view b)
+  pub place-is : (index : ℕ) → firstWhere (named index) (b .heads) ≡ placeOf index (view b)
   unfolding placeOf
   place-is index = sym (first-alike (hasIndex index) (named index) (view b) (b .heads) none nobody (length-view b ∙ sym eight)
       (λ k h. ap (hasIndex index) (view-at b k (rw (length-view b) at h)) ∙ named-seen index (headAt b k .used) (symbolAt b k)))
 
-  pub vacancy-is : first unused (b .heads) ≡ vacancyOf (view b)
+  pub vacancy-is : firstWhere unused (b .heads) ≡ vacancyOf (view b)
   unfolding vacancyOf
   vacancy-is = sym (first-alike isVacant unused (view b) (b .heads) none nobody (length-view b ∙ sym eight)
       (λ k h. ap isVacant (view-at b k (rw (length-view b) at h)) ∙ unused-seen (headAt b k .used) (symbolAt b k)))

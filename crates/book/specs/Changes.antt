@@ -1,4 +1,4 @@
--- Decide, then store: what the rules on small values answer, and what the stores make of it.
+-- Decide, then store: the contracts of searches, of decisions on small values and of stores. No rule of document 01 stands here, and nothing here need be believed.
 use mathlib.Core.Bool.{Bool, true, false, cond}
 use mathlib.Core.List.{List}
 use mathlib.Core.Path.{_≡_}

@@ -43,7 +43,7 @@ levelIf false p n = Level.Empty
 unfoldable pub levelOf : Bool → List Order → Level
 levelOf buy os = levelIf (bestOf buy os .some) (bestOf buy os .price) (sumBy (sharesAt buy (bestOf buy os .price)) os)
 
--- a quote checks 5, then 8; refused, it shows none on both sides
+-- refused, with 5 or else with 8, there is none on either side
 abbrev pub noQuote : ℕ → Quote
 noQuote a = record { answer = a; bid = Level.Empty; ask = Level.Empty }
 

@@ -6,20 +6,20 @@ use mathlib.Core.Path.{_≡_}
 use Prim.Native.Nat.{ℕ}
 use lib.Dec.{ltb, eqb}
 use lib.ListN.{length, replicate}
-use Rattle.places.specs.Places.{first}
+use Rattle.places.specs.Places.{firstWhere}
 use Rattle.book.specs.State.{symbols, nameBytes, paddedName, Symbol, View, view, Wf, placeOf, symbolIn, vacancyOf}
 use Rattle.book.specs.Step.{Next, refusing, put}
 use Rattle.book.specs.declared.Book.{Book}
 use Rattle.book.specs.declared.symbols.Registered.{Registered}
 
--- a name has 1 to 11 bytes, each 0x21 to 0x7E and no comma
+-- a byte that a name can't have, and a name that is empty, too long or has one
 abbrev pub byteBad : ℕ → Bool
 byteBad c = cond (ltb c 0x21) true (cond (ltb 0x7E c) true (eqb c 0x2C))
 
 unfoldable pub nameBad : List ℕ → Bool
-nameBad name = cond (eqb (length name) 0) true (cond (ltb nameBytes (length name)) true (ltb (first byteBad name) (length name)))
+nameBad name = cond (eqb (length name) 0) true (cond (ltb nameBytes (length name)) true (ltb (firstWhere byteBad name) (length name)))
 
--- registering starts a symbol with no orders, an empty whole record, not stale, expecting number 1
+-- what registering starts: nothing live, nothing recorded and the mark there, number 1 expected
 abbrev pub newSymbol : ℕ → List ℕ → ℕ → Symbol
 newSymbol index name scale = record { index = index; name = name; scale = scale; expected = 1; stale = false; whole = true; orders = []; trades = [] }
 

@@ -22,7 +22,7 @@ repriced x p v = record { live = x .live; buy = x .buy; number = x .number; pric
 abbrev pub less : Order → ℕ → Order
 less x v = record { live = x .live; buy = x .buy; number = x .number; price = x .price; volume = x .volume - v }
 
--- Add: the order must not be live. It fits otherwise; with every place live there is no room
+-- Add: one that is live already doesn't fit; where every place is live there is no room
 --             found     room
 abbrev pub added : List Order → Order → Option Order → Bool → Fit (List Order)
 added os o (some x) room = misfit
@@ -33,17 +33,17 @@ abbrev pub onSide : Bool → Fit (List Order) → Fit (List Order)
 onSide true x = x
 onSide false x = misfit
 
--- Modify: the order is live on the same side. Price and volume become the new ones
+-- Modify: of a live order, on its own side; it gets the new price and volume
 abbrev pub modified : List Order → ℕ → Bool → ℕ → ℕ → Option Order → Fit (List Order)
 modified os n buy p v none = misfit
 modified os n buy p v (some x) = onSide (Bool·beq (x .buy) buy) (fits (insert orderNumber (repriced x p v) (remove orderNumber n os)))
 
--- Delete: the order is live, and goes
+-- Delete: of a live order, which goes
 abbrev pub deleted : List Order → ℕ → Option Order → Fit (List Order)
 deleted os n none = misfit
 deleted os n (some x) = fits (remove orderNumber n os)
 
--- Execute: the executed volume is at most what is left. At zero left the order goes
+-- Execute: of a live order, no more than is left of it; where nothing is left, the order goes
 --                      more   all
 abbrev pub taken : List Order → ℕ → ℕ → Order → Bool → Bool → Fit (List Order)
 taken os n v x true all = misfit
@@ -54,7 +54,7 @@ abbrev pub executed : List Order → ℕ → ℕ → Option Order → Fit (List 
 executed os n v none = misfit
 executed os n v (some x) = taken os n v x (ltb (x .volume) v) (eqb (x .volume) v)
 
--- Replace: the old order is live on the same side; it goes first, and the new number must then not be live
+-- Replace: of a live order, on its own side. It is gone before the new number is looked for, which then must not be there
 abbrev pub renewed : List Order → Order → Option Order → Fit (List Order)
 renewed rest o none = fits (insert orderNumber o rest)
 renewed rest o (some x) = misfit

@@ -6,7 +6,7 @@ use mathlib.Core.Path.{_≡_}
 use Prim.Native.Nat.{ℕ, _*_, _≤_, _<_}
 use lib.Dec.{eqb}
 use lib.ListN.{getD, take, replicate}
-use Rattle.places.specs.Places.{part, tabulate, first, inOrder, Single}
+use Rattle.places.specs.Places.{part, tabulate, firstWhere, inOrder, Single}
 use Rattle.book.specs.declared.Order.{Order}
 use Rattle.book.specs.declared.Trade.{Trade}
 use Rattle.book.specs.declared.Head.{Head}
@@ -109,13 +109,13 @@ isVacant none = true
 isVacant (some s) = false
 
 unfoldable pub placeOf : ℕ → View → ℕ
-placeOf index v = first (hasIndex index) v
+placeOf index v = firstWhere (hasIndex index) v
 
 unfoldable pub symbolIn : ℕ → View → Option Symbol
 symbolIn index v = getD v (placeOf index v) none
 
 unfoldable pub vacancyOf : View → ℕ
-vacancyOf v = first isVacant v
+vacancyOf v = firstWhere isVacant v
 
 -- ---- what holds of every state
 -- eleven bytes: the name's, then zeros

@@ -37,7 +37,7 @@ enacted s d (unchanged a) = record { symbol = s; answer = a }
 enacted s d (made-stale a) = record { symbol = staled s; answer = a }
 enacted s d (applied os) = record { symbol = advanced s os (dealTo (s .trades) d); answer = 0 }
 
--- all orders go, the symbol is not stale and expects the number given; another number than the expected one loses the mark
+-- a clear: no orders, not stale, and the number given is the one in turn. The mark goes where that is another than was expected
 abbrev pub cleared : Symbol → ℕ → Reply
 cleared s next = record { symbol = record { index = s .index; name = s .name; scale = s .scale; expected = next; stale = false; whole = cond (eqb next (s .expected)) (s .whole) false; orders = []; trades = s .trades }; answer = 0 }
 

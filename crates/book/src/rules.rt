@@ -82,7 +82,7 @@ pub(crate) fn judge_delete(i: usize, order: u64) -> Verdict
     Verdict::Fits { place: i, order: o }
 }
 
-// The volume comes off at the order's own price. At zero left the order goes.
+// What is left stands at the order's own price; where nothing is left, the order is gone.
 pub(crate) fn judge_execute(i: usize, x: Order, order: u64, volume: u32) -> Verdict
     ensures { λ r. ⌜ ((l : List Order) (d : Deal) → OrderPart l → OrderAt order l i → x ≡ getD l i noOrder → Decides l r (applyTo (liveOrders l) (Effect.Execute order volume d))) ⌝ }
 {

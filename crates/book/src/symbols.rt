@@ -16,7 +16,7 @@ ghost use Rattle.book.specs.Registering.{byteBad, nameBad, registerOf, T
 // The largest price scale.
 const MOST_SCALE: u8 = 6;
 
-// What registering keeps of a symbol for the page: its name, of so many bytes and zeros after them, and the scale of its prices.
+// What `symbol` answers: the name, of so many bytes and zeros after them, and the scale of the prices; or 5, and zeros.
 pub struct Registered {
     pub answer: u8,
     pub name: [u8; NAME],

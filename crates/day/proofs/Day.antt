@@ -5,7 +5,7 @@ use Rattle.wire.specs.Bytes.{value, littleEndian}
 use Rattle.wire.specs.Table.{shapeOf}
 use Rattle.wire.specs.Fields.{faultBy, faultOf}
 use Rattle.wire.specs.Reading.{reachBy, reachOf, readBy, readBody, readSized, readShape, readTyped, readReached, readOf}
-use Rattle.places.specs.Places.{first, fold, sumBy, insert, remove, look, tabulate}
+use Rattle.places.specs.Places.{firstWhere, fold, sumBy, insert, remove, look, tabulate}
 use Rattle.book.specs.State.{View, paddedName, placeOf, symbolIn, vacancyOf}
 use Rattle.book.specs.Rules.{applyTo}
 use Rattle.book.specs.Record.{dealTo}
@@ -24,10 +24,10 @@ use Rattle.demands.specs.Messages.{index}
 use Rattle.demands.proofs.Starting.{began-wf}
 use Rattle.demands.proofs.Demand3.{reads-after}
 use Rattle.demands.proofs.Examples.{has-began, has-view}
-use Rattle.day.specs.Rows.{Row, resultOf, Holds, Shown, AllRows, rows, LineL, Day}
+use Rattle.day.specs.Rows.{Row, resultOf, ByRule, ByCalls, AllRows, rows, LineL, Day}
 
 -- what the calls hand back is what the rules say
-by-calls : (r : Row) → Holds r → Shown r
+by-calls : (r : Row) → ByRule r → ByCalls r
 unfolding moveOf
 by-calls r h = record {
   by-calls = λ p reads moves.
@@ -38,17 +38,17 @@ by-calls r h = record {
       ∙ ap (λ (v : View). resultOf v (r .bytes)) before ∙ h;
 }
 
-all-by-calls : (rs : List Row) → AllRows Holds rs → AllRows Shown rs
+all-by-calls : (rs : List Row) → AllRows ByRule rs → AllRows ByCalls rs
 all-by-calls [] h = tt
 all-by-calls (r ∷ rs) h = (by-calls r (h .0), all-by-calls rs (h .1))
 
-by-rule : AllRows Holds rows
-unfolding value littleEndian shapeOf faultBy faultOf reachBy reachOf readBy readBody readSized readShape readTyped readReached readOf first fold sumBy insert remove look placeOf symbolIn vacancyOf applyTo dealTo nameBad registerOf bestStep sharesAt levelOf quoteOf ruled enacted meets actOn meant stepOf moveOf stepsOf
+by-rule : AllRows ByRule rows
+unfolding value littleEndian shapeOf faultBy faultOf reachBy reachOf readBy readBody readSized readShape readTyped readReached readOf firstWhere fold sumBy insert remove look placeOf symbolIn vacancyOf applyTo dealTo nameBad registerOf bestStep sharesAt levelOf quoteOf ruled enacted meets actOn meant stepOf moveOf stepsOf
 by-rule = (refl, (refl, (refl, (refl, (refl, (refl, (refl, (refl, (refl, (refl, (refl, (refl, (refl, tt)))))))))))))
 
 -- what is told of ABC is what the marked case has
 abc-told : {b : Book} → HasABC b → told b marked.add ≡ marked.abc
-unfolding first placeOf symbolIn vacancyOf nameBad registerOf toldOf paddedName tabulate
+unfolding firstWhere placeOf symbolIn vacancyOf nameBad registerOf toldOf paddedName tabulate
 abc-told p = ap (λ (v : View). toldOf (symbolIn 7 v)) (has-view p) ∙ refl
 
 line-l : LineL

@@ -34,11 +34,11 @@ pub record Row : Type 0 where
 abbrev pub resultOf : View → List ℕ → Result
 resultOf v s = record { answer = moveOf v s 0 .answer; moves = landing (reachOf (drop 0 s)) 0; quote = quoteOf index (moveOf v s 0 .view) }
 
-abbrev pub Holds : Row → Type 0
-Holds r = resultOf (stepsOf viewABC (r .after)) (r .bytes) ≡ r .result
+abbrev pub ByRule : Row → Type 0
+ByRule r = resultOf (stepsOf viewABC (r .after)) (r .bytes) ≡ r .result
 
 -- for any states that the calls hand back
-pub record Shown (r : Row) : Type 0 where
+pub record ByCalls (r : Row) : Type 0 where
   pub by-calls : {b c : Book} {m : Moved} → HasABC b → Reads b (r .after) c → Moves c (r .bytes) 0 m
       → record { answer = m .answer; moves = m .at; quote = quoteOf index (view (m .book)) } ≡ r .result
 
@@ -118,5 +118,5 @@ pub record LineL : Type 0 where
 
 -- ---- all of the day
 pub record Day : Type 0 where
-  pub a-to-k : AllRows Shown rows
+  pub a-to-k : AllRows ByCalls rows
   pub l : LineL

@@ -36,19 +36,19 @@ record OrdersKept (answer : ℕ) (before after : Orders) : Type 0 where
   pub bound : answer ≤ 10
   pub unless-done : answer ≢ 0 → after ≡ before
 
-ruled-keeps : (s : Symbol) (stale below above : Bool) (x : Fit Orders) (d : _) → OrdersKept (enacted s d (ruled stale below above x) .answer) (s .orders) (enacted s d (ruled stale below above x) .symbol .orders)
+ruled-keeps-orders : (s : Symbol) (stale below above : Bool) (x : Fit Orders) (d : _) → OrdersKept (enacted s d (ruled stale below above x) .answer) (s .orders) (enacted s d (ruled stale below above x) .symbol .orders)
 unfolding enacted ruled
-ruled-keeps s true below above x d = record { bound = omega arith; unless-done = λ n. refl }
-ruled-keeps s false true above x d = record { bound = omega arith; unless-done = λ n. refl }
-ruled-keeps s false false true x d = record { bound = omega arith; unless-done = λ n. refl }
-ruled-keeps s false false false misfit d = record { bound = omega arith; unless-done = λ n. refl }
-ruled-keeps s false false false no-room d = record { bound = omega arith; unless-done = λ n. refl }
-ruled-keeps s false false false (fits os) d = record { bound = omega arith; unless-done = λ n. absurd (n refl) }
+ruled-keeps-orders s true below above x d = record { bound = omega arith; unless-done = λ n. refl }
+ruled-keeps-orders s false true above x d = record { bound = omega arith; unless-done = λ n. refl }
+ruled-keeps-orders s false false true x d = record { bound = omega arith; unless-done = λ n. refl }
+ruled-keeps-orders s false false false misfit d = record { bound = omega arith; unless-done = λ n. refl }
+ruled-keeps-orders s false false false no-room d = record { bound = omega arith; unless-done = λ n. refl }
+ruled-keeps-orders s false false false (fits os) d = record { bound = omega arith; unless-done = λ n. absurd (n refl) }
 
-meets-keeps : (s : Symbol) (a : Act Effect) → OrdersKept (meets s a .answer) (s .orders) (meets s a .symbol .orders)
+meets-keeps-orders : (s : Symbol) (a : Act Effect) → OrdersKept (meets s a .answer) (s .orders) (meets s a .symbol .orders)
 unfolding meets
-meets-keeps s (clear index next) = record { bound = omega arith; unless-done = λ n. absurd (n refl) }
-meets-keeps s (numbered index n e) = ruled-keeps s (s .stale) (ltb n (s .expected)) (ltb (s .expected) n) (applyTo (s .orders) e) (dealOf e)
+meets-keeps-orders s (clear index next) = record { bound = omega arith; unless-done = λ n. absurd (n refl) }
+meets-keeps-orders s (numbered index n e) = ruled-keeps-orders s (s .stale) (ltb n (s .expected)) (ltb (s .expected) n) (applyTo (s .orders) e) (dealOf e)
 
 -- ---- the next view and the answer, of all symbols
 record AllOrdersKept (v : View) (x : Next) : Type 0 where
@@ -65,11 +65,11 @@ module _ (v : View) (a : Act Effect) where
     where
       go : (x : Option Symbol) → actAt v (placeOf (indexOf a) v) x a .answer ≤ 10
       go none = omega arith
-      go (some s) = meets-keeps s a .bound
+      go (some s) = meets-keeps-orders s a .bound
 
   own-same : (x : Option Symbol) → symbolIn (indexOf a) v ≡ x → actAt v (placeOf (indexOf a) v) x a .answer ≢ 0 → liveOf (symbolIn (indexOf a) (actOn v a .view)) ≡ liveOf (symbolIn (indexOf a) v)
   own-same none e n = ap (λ (w : View). liveOf (symbolIn (indexOf a) w)) (unregistered-stays v a e)
-  own-same (some s) e n = ap liveOf (own-symbol v a s e) ∙ meets-keeps s a .unless-done n ∙ sym (ap liveOf e)
+  own-same (some s) e n = ap liveOf (own-symbol v a s e) ∙ meets-keeps-orders s a .unless-done n ∙ sym (ap liveOf e)
 
   act-keeps : AllOrdersKept v (actOn v a)
   unfolding actOn

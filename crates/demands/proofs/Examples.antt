@@ -11,7 +11,7 @@ use Rattle.wire.specs.Table.{shapeOf}
 use Rattle.wire.specs.Fields.{faultBy, faultOf}
 use Rattle.wire.specs.Reading.{reachBy, reachOf, readBy, readBody, readSized, readShape, readTyped, readReached, readOf}
 use Rattle.feed.specs.Reader.{ruled, numbered}
-use Rattle.places.specs.Places.{first, among, fold, sumBy, insert, remove, look}
+use Rattle.places.specs.Places.{firstWhere, among, fold, sumBy, insert, remove, look}
 use Rattle.book.specs.State.{Symbol, View, view, placeOf, symbolIn, vacancyOf, Fresh}
 use Rattle.book.specs.Rules.{applyTo}
 use Rattle.book.specs.Record.{dealTo}
@@ -66,7 +66,7 @@ record AllFair : Type 0 where
   pub along : quotesAlong withLosses ≡ alongLosses
 
 all-fair : AllFair
-unfolding Complete Applied ClearsDelivered sent quotesAlong delivered quoteOf levelOf bestStep sharesAt fold sumBy value littleEndian shapeOf faultBy faultOf reachBy reachOf readBy readBody readSized readShape readTyped readReached readOf first insert remove look placeOf symbolIn vacancyOf applyTo dealTo nameBad registerOf ruled enacted meets actOn meant stepOf stepsOf
+unfolding Complete Applied ClearsDelivered sent quotesAlong delivered quoteOf levelOf bestStep sharesAt fold sumBy value littleEndian shapeOf faultBy faultOf reachBy reachOf readBy readBody readSized readShape readTyped readReached readOf firstWhere insert remove look placeOf symbolIn vacancyOf applyTo dealTo nameBad registerOf ruled enacted meets actOn meant stepOf stepsOf
 all-fair = record {
   one-add = record { complete = (tt, refl); applied = (tt, refl); clears = tt };
   with-losses = record {
@@ -104,7 +104,7 @@ module _ {b c : Book} (p : HasABC b) (q : HasABC c) where
 
 -- and with two symbols, registered in either order
 either-order : (i : ℕ) → Registered i viewABCThenXYZ ↔ Registered i viewXYZThenABC
-unfolding symbolIn placeOf vacancyOf first nameBad registerOf
+unfolding symbolIn placeOf vacancyOf firstWhere nameBad registerOf
 either-order i = go (eqb index i) (eqb other i) refl refl
   where
     go : (t u : Bool) → eqb index i ≡ t → eqb other i ≡ u → Registered i viewABCThenXYZ ↔ Registered i viewXYZThenABC
@@ -127,7 +127,7 @@ pub record WithABC : Type 0 where
   pub has : HasABC book
 
 registers-ABC : (b : Book) → Fresh b → WithABC
-unfolding registerOf placeOf vacancyOf first nameBad among
+unfolding registerOf placeOf vacancyOf firstWhere nameBad among
 registers-ABC b f = record {
   book = withHead b 0 (newHead index name scale) 0 .book;
   has = registered f

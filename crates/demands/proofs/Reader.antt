@@ -19,21 +19,21 @@ enacted-answers s d (unchanged a) = refl
 enacted-answers s d (made-stale a) = refl
 enacted-answers s d (applied os) = refl
 
-enacted-keeps : (s : Symbol) (d : _) (r : Ruling Orders) → keptOf (enacted s d r .symbol) ≡ replied (keptOf s) r .after
+enacted-as-feed : (s : Symbol) (d : _) (r : Ruling Orders) → keptOf (enacted s d r .symbol) ≡ replied (keptOf s) r .after
 unfolding enacted replied
-enacted-keeps s d (unchanged a) = refl
-enacted-keeps s d (made-stale a) = refl
-enacted-keeps s d (applied os) = refl
+enacted-as-feed s d (unchanged a) = refl
+enacted-as-feed s d (made-stale a) = refl
+enacted-as-feed s d (applied os) = refl
 
 meets-answers : (s : Symbol) (m : Act Effect) → meets s m .answer ≡ feed.meets pillar (keptOf s) m .answer
 unfolding meets feed.meets
 meets-answers s (clear index next) = refl
 meets-answers s (numbered index n e) = enacted-answers s (dealOf e) _
 
-meets-keeps : (s : Symbol) (m : Act Effect) → keptOf (meets s m .symbol) ≡ feed.meets pillar (keptOf s) m .after
+meets-as-feed : (s : Symbol) (m : Act Effect) → keptOf (meets s m .symbol) ≡ feed.meets pillar (keptOf s) m .after
 unfolding meets feed.meets
-meets-keeps s (clear index next) = refl
-meets-keeps s (numbered index n e) = enacted-keeps s (dealOf e) _
+meets-as-feed s (clear index next) = refl
+meets-as-feed s (numbered index n e) = enacted-as-feed s (dealOf e) _
 
 -- ---- the eight symbols: feed's three laws
 module _ (v : View) (m : Act Effect) where
@@ -51,7 +51,7 @@ module _ (v : View) (m : Act Effect) where
     where
       go : (x : Option Symbol) → symbolIn (indexOf m) v ≡ x → keptIf (symbolIn (indexOf m) (actOn v m .view)) ≡ afterOf pillar (keptIf (symbolIn (indexOf m) v)) m
       go none e = rw (unregistered-stays v m e, e)
-      go (some s) e = rw (own-symbol v m s e, e) (ap some (meets-keeps s m))
+      go (some s) e = rw (own-symbol v m s e, e) (ap some (meets-as-feed s m))
 
   pub other : (i : ℕ) → (i ≡ indexOf m → ⊥) → keptIn (actOn v m .view) i ≡ keptIn v i
   unfolding keptIn

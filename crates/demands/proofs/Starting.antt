@@ -18,7 +18,7 @@ use Rattle.book.proofs.Reaching.{reached-wf}
 use Rattle.demands.specs.Reader.{pillar, keptIf, keptIn}
 use Rattle.demands.specs.Demand3.{Began, new, registers}
 
-pub began-reached : {b : Book} → Began b → Reached b
+began-reached : {b : Book} → Began b → Reached b
 began-reached (new f) = reached.new f
 began-reached (registers index name scale p s) = reached.registered index name scale (began-reached p) s
 

@@ -25,18 +25,18 @@ use Rattle.demands.proofs.Starting.{began-new}
 
 -- ---- one message
 -- reading handed on a message
-abbrev Read : Outcome Message → Type 0
-Read (done m) = Unit {0}
-Read (refused a) = ⊥
+abbrev WasRead : Outcome Message → Type 0
+WasRead (done m) = Unit {0}
+WasRead (refused a) = ⊥
 
 abbrev IsRead : List ℕ → Type 0
-IsRead m = Read (readOf m .outcome)
+IsRead m = WasRead (readOf m .outcome)
 
 done-read : (v : View) (m : List ℕ) → stepOf v (readOf m) .answer ≡ 0 → IsRead m
 unfolding stepOf
 done-read v m e = go (readOf m .outcome) (read-tells m) e
   where
-    go : (x : Outcome Message) → Tells (msgType m) x → stepOn v x .answer ≡ 0 → Read x
+    go : (x : Outcome Message) → Tells (msgType m) x → stepOn v x .answer ≡ 0 → WasRead x
     go (done y) t z = tt
     go (refused a) t z = omega (arith, t .0, z)
 
@@ -44,7 +44,7 @@ step-acts : (v : View) (m : List ℕ) → IsRead m → stepOf v (readOf m) ≡ a
 unfolding stepOf
 step-acts v m = go (readOf m .outcome)
   where
-    go : (x : Outcome Message) → Read x → stepOn v x ≡ actOn v (said x)
+    go : (x : Outcome Message) → WasRead x → stepOn v x ≡ actOn v (said x)
     go (done y) r = refl
     go (refused a) r = absurd r
 
@@ -72,7 +72,7 @@ meant-numbered (Message.Status h seconds) ne = tt
 act-numbered : (m : List ℕ) → IsRead m → (msgType m ≡ 32 → ⊥) → Numbered (actIn m)
 act-numbered m r ne = go (readOf m .outcome) (read-tells m) r
   where
-    go : (x : Outcome Message) → Tells (msgType m) x → Read x → Numbered (said x)
+    go : (x : Outcome Message) → Tells (msgType m) x → WasRead x → Numbered (said x)
     go (done y) t u = meant-numbered y (λ e. ne (sym t ∙ e))
     go (refused a) t u = absurd u
 

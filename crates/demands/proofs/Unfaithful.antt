@@ -10,8 +10,8 @@ use Rattle.wire.specs.Fields.{faultBy, faultOf}
 use Rattle.wire.specs.Reading.{reachBy, reachOf, readBy, readBody, readSized, readShape, readTyped, readReached, readOf}
 use Rattle.feed.specs.Book.{fitted, bookAfter, bookOf}
 use Rattle.feed.specs.Demand3.{here, more, at-start, NotLost, NoneLost}
-use Rattle.places.specs.Places.{first, fold, sumBy, insert, look}
-use Rattle.book.specs.State.{View, view, placeOf, symbolIn, vacancyOf}
+use Rattle.places.specs.Places.{firstWhere, fold, sumBy, insert, look}
+use Rattle.book.specs.State.{placeOf, symbolIn, vacancyOf}
 use Rattle.book.specs.Rules.{applyTo}
 use Rattle.book.specs.Registering.{nameBad, registerOf}
 use Rattle.book.specs.Step.{meant}
@@ -34,7 +34,7 @@ record Computed : Type 0 where
   pub none-lost : NoneLost index (feedOf oneAdd)
 
 computed : Computed
-unfolding feedOf bookOf bookAfter fitted NotLost quoteOf levelOf bestStep sharesAt fold sumBy value littleEndian shapeOf faultBy faultOf reachBy reachOf readBy readBody readSized readShape readTyped readReached readOf first insert look placeOf symbolIn vacancyOf applyTo nameBad registerOf meant
+unfolding feedOf bookOf bookAfter fitted NotLost quoteOf levelOf bestStep sharesAt fold sumBy value littleEndian shapeOf faultBy faultOf reachBy reachOf readBy readBody readSized readShape readTyped readReached readOf firstWhere insert look placeOf symbolIn vacancyOf applyTo nameBad registerOf meant
 computed = record { book = refl; before = refl; registered = tt; none-lost = record { from = _; counts = at-start; since = more here tt } }
 
 module _ (Takes : Book → List (List ℕ) → Book → Type 0) {b c : Book} (demand : Demand3 Takes b c) (p : HasABC b) (q : HasABC c) where

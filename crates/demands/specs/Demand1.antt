@@ -1,4 +1,4 @@
--- Demand 1 of document 00: any bytes, in any state, and each call ends with one numbered answer. Which numbers each call can give, and what a refusal leaves.
+-- Demand 1 of document 00, of every state that the calls can be given: which numbers each call can answer with, and what a refusal leaves.
 use Prim.Native.Nat.{ℕ, _≤_}
 use mathlib.Core.Bool.{true}
 use mathlib.Core.List.{List, [], _∷_}

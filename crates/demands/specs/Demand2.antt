@@ -34,7 +34,7 @@ NotFor index m = (x : Message) → readOf m .outcome ≡ done x → index ≢ in
 
 -- ---- of a state: what it quotes and holds of a symbol
 pub record OfSymbol (b : Book) (index : ℕ) (s : Symbol) : Type 0 where
-  -- a price level holds the exact sum of its live orders,
+  -- the size quoted is the exact sum over the live orders at the price,
   pub exact-sum : (buy : Bool) (price size : ℕ) → sideOf buy (quoteIn b index) ≡ Level.Best price size → size ≡ sumBy (sharesAt buy price) (s .orders)
   -- a live order of its side stands at the price,
   pub attained : (buy : Bool) (price size : ℕ) → sideOf buy (quoteIn b index) ≡ Level.Best price size → Attained buy price (s .orders)
@@ -80,7 +80,7 @@ pub record Demand2 (b : Book) : Type 0 where
   pub messages : {s : List ℕ} {at : ℕ} {r : Moved} → Moves b s at r → OfMessage b s at r
   pub runs : {s : List ℕ} {from : ℕ} {r : Ran} → Runs b s from r → OfRun b s from r
 
--- and of the messages alone: reading what we wrote gives the same message, and writing what we read gives the same bytes when the reserved bytes are zero
+-- and of the messages alone: what is written is read as the same message, and what is read is written as the same bytes, where the reserved ones are zero
 pub record RoundTrips : Type 0 where
   pub read-what-was-written : (m : Message) (plain out : List ℕ) → length plain ≡ plainRoom → InRange (fieldsOf m) → ReadsBack m plain (writeOf m plain out)
   pub write-what-was-read : (s : List ℕ) → Bytes s → WritesBack s (readOf s)

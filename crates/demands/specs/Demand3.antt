@@ -54,8 +54,7 @@ pub data Reads (b : Book) : List (List ℕ) → Book → Type 0 where
 pub data RunsOver (b : Book) (ms : List (List ℕ)) : Book → Type 0 where
   ran : {r : Ran} → Runs b (endToEnd ms) 0 r → RunsOver b ms (r .book)
 
--- ---- what is given: two readers, new and with the same symbols registered before the feed starts, and a feed that one receiving all of it applies without one
--- refusal; what is lost of it is numbered
+-- ---- what is given: two new readers with the same symbols, and a feed of which a reader that is given all refuses nothing; what is lost of it is numbered
 pub record Given (b c : Book) (f : ByteFeed) : Type 0 where
   pub first-began : Began b
   pub second-began : Began c
@@ -89,9 +88,9 @@ module _ (Takes : Book → List (List ℕ) → Book → Type 0) (b c : Book) whe
     pub quotes-the-book : (index : ℕ) → Registered index (view b) → NoneLost index (feedOf f) → quoteIn second index ≡ quotedIf false (bookOf pillar index (feedOf f))
     -- as it is for the first at every moment
     pub first-quotes-the-book : (index : ℕ) → Registered index (view b) → quoteIn first index ≡ quotedIf false (bookOf pillar index (feedOf f))
-    -- after a loss: it quotes as the first did just before the first lost message, at the moment h
+    -- after a loss: it quotes as the first did at h, the moment before the first lost message
     pub after-a-loss : (index : ℕ) {h : ByteFeed} {before : Book} → Moment h f → Takes b (sent h) before → AfterLoss index (feedOf h) (feedOf f) → quoteIn second index ≡ quoteIn before index
-    -- from its next numbered message for that symbol it refuses every quote, until a clear
+    -- once it hears a numbered message of the symbol after that, it refuses, until a clear
     pub refused-until-a-clear : (index : ℕ) → UntilClear index (feedOf f) → quoteIn second index ≡ noQuote 8
     -- from that clear on, whatever was lost before it, until another loss: it again agrees with the first
     pub from-that-clear-on : (index : ℕ) {next : ℕ} {h : Feed Effect} → Since (NotLost index) (h ▷ heard (clear index next)) (feedOf f) → quoteIn second index ≡ quoteIn first index

@@ -75,7 +75,7 @@ pub data Quote (Q : Type 0) : Type 0 where
   quoted : Q → Quote Q
 
 module _ (R : Rules) where
-  -- A registered symbol meets a message of its own. A clear is never refused: all orders go, the symbol is not stale and expects the number given.
+  -- A registered symbol meets a message of its own. A clear is never refused: it leaves no orders, makes the symbol not stale, and gives the number in turn.
   unfoldable pub meets : Kept (R .Orders) → Act (R .Effect) → Reply (R .Orders)
   meets k (clear index next) = record { answer = 0; after = expecting next (R .empty) }
   meets k (numbered index number effect) = replied k (ruled (k .stale) (ltb number (k .expected)) (ltb (k .expected) number) (R .apply (k .orders) effect))

@@ -1,4 +1,4 @@
--- The cases of printing a line, each as one law.
+-- Each test of printing decides one clause of the rule, so each case is one law; and no clause touches a byte beyond its count.
 use mathlib.Core.Path.{_≡_, refl, ap, sym, _∙_}
 use mathlib.Core.List.{List, [], _∷_, _++_}
 use mathlib.Core.Bool.{Bool, true, false}
@@ -14,7 +14,7 @@ use Rattle.wire.specs.Message.{typeOf, hasBadField}
 use Rattle.wire.specs.declared.Message.{Message}
 use Rattle.book.specs.declared.symbols.Registered.{Registered}
 use Rattle.page.specs.Columns.{columnsOf, rendered}
-use Rattle.page.specs.Printing.{hasNoLine, lastSecond, laidIf, laid, lineBy, lineOf, Refuses}
+use Rattle.page.specs.Printing.{hasNoLine, lastSecond, laidIf, laid, lineBy, lineOf, RefusedAnyway}
 
 -- ---- the room
 module _ (line out : List ℕ) where
@@ -83,8 +83,8 @@ refused-alike false false true true line line′ out k h e = refused-is 14 k out
 refused-alike false false true false line line′ out k h e = absurd (laid-not-refused (ltb (length out) (length line)) line out k h e)
 
 pub line-refuses : (s t : Registered) (m : Message) (plain : List ℕ) (sequence second : ℕ) (out : List ℕ) → s .answer ≡ t .answer →
-    Refuses (lineOf t m plain sequence second out) out (lineOf s m plain sequence second out)
-unfolding Refuses lineOf
+    RefusedAnyway (lineOf t m plain sequence second out) out (lineOf s m plain sequence second out)
+unfolding RefusedAnyway lineOf
 line-refuses s t m plain sequence second out e k h r = rw e (refused-alike _ _ _ _ _ _ out k h r)
 
 -- ---- what stays in the buffer: the bytes beyond the count, so all of it where a line is refused

@@ -1,11 +1,11 @@
--- Columns after columns, and the types that have none.
+-- Columns joined after columns are one list of columns joined; eleven types have none, clause by clause.
 use mathlib.Core.Path.{_≡_, refl, ap, subst, _∙_}
 use mathlib.Core.List.{List, [], _∷_, _++_, append-assoc}
 use Prim.Native.Nat.{ℕ}
 use denote.Enum.Declared.{tagOf}
 use types.Run.{OneOf, miss}
 use Rattle.page.specs.Columns.{Column, number, clock, bytes, shown, next, further, joined, nameOf, opening, columnsOf}
-use Rattle.page.specs.Held.{Holds, Adds}
+use Rattle.page.specs.Held.{HoldsText, Adds}
 use Rattle.page.specs.declared.text.Line.{Line}
 use Rattle.page.proofs.Holding.{holds-then}
 use Rattle.book.specs.declared.symbols.Registered.{Registered}
@@ -23,9 +23,9 @@ joined-append c cs ds = append-assoc (shown c) (further cs) (further ds) ∙ ap 
 
 -- the columns that every line begins with, and the type's own
 pub opening-then : (type : ℕ) (s : Registered) (h : Head) (sequence second : ℕ) (ds : List Column) {a b : Line} →
-    Holds (joined (opening type s h sequence second)) a → Adds a (further ds) b → Holds (joined (opening type s h sequence second ++ ds)) b
+    HoldsText (joined (opening type s h sequence second)) a → Adds a (further ds) b → HoldsText (joined (opening type s h sequence second ++ ds)) b
 opening-then type s h sequence second ds {a} {b} p q =
-    subst (λ x. Holds x b) (joined-append (number type) (number sequence ∷ clock second (h .nanos) ∷ bytes (nameOf s) ∷ number (h .number) ∷ []) ds) (holds-then p q)
+    subst (λ x. HoldsText x b) (joined-append (number type) (number sequence ∷ clock second (h .nanos) ∷ bytes (nameOf s) ∷ number (h .number) ∷ []) ds) (holds-then p q)
 
 -- a message that is neither an add nor a cross, by its place among the 13
 pub no-columns : (s : Registered) (m : Message) (plain : List ℕ) (sequence second : ℕ) →

@@ -1,4 +1,4 @@
--- A copy of the first bytes over a buffer, byte by byte.
+-- Byte i of a copy is byte i of what is copied, so after n bytes the first n are the line's and the rest as it was.
 use mathlib.Core.Path.{_≡_, refl, ap, sym, _∙_}
 use mathlib.Core.List.{List, _++_, append-assoc}
 use Prim.Native.Nat.{ℕ, suc, _+_, _<_}

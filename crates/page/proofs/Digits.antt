@@ -1,4 +1,4 @@
--- The digits of a number, of a price and of a time: none, one, and one more.
+-- The digits of a number are those of its tenth and one more, so a number, and a price by its units and decimals, is built from the front.
 use mathlib.Core.Path.{_≡_, refl, ap, sym, _∙_}
 use mathlib.Core.List.{[], _∷_, _++_, append-nil}
 use mathlib.Core.Bool.{Bool, true, false}

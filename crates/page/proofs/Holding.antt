@@ -1,4 +1,4 @@
--- What a line under construction holds: one byte more, a text after a text, and how far the room reaches.
+-- A line holds its first bytes as far as there is room, so adding a text and then another is adding both.
 use mathlib.Core.Path.{_≡_, refl, ap, sym, _∙_}
 use mathlib.Core.List.{List, [], _∷_, _++_, append-assoc, append-nil, map, map-append}
 use Prim.Native.Nat.{ℕ, zero, suc, _+_, _≤_, _<_}
@@ -7,7 +7,7 @@ use native.Mathlib.Omega.{arith}
 use lib.ListN.{length, take, getD, set, length-append, length-take}
 use lib.Seq.{take-suc, take-all, take-append-le, take-suc-set, length-take-le}
 use Rattle.page.specs.Text.{textByte}
-use Rattle.page.specs.Held.{room, held, clip, Holds, Adds}
+use Rattle.page.specs.Held.{room, held, clip, HoldsText, Adds}
 use Rattle.page.specs.declared.text.Line.{Line}
 
 -- ---- one byte
@@ -44,18 +44,18 @@ adds-then {a} {b} {c} {x} {y} p q =
 pub adds-last : {a b : Line} {x : List ℕ} → Adds a x b → Adds a (x ++ []) b
 adds-last {a} {b} {x} p = rw (append-nil x) p
 
-pub holds-nothing : {a : Line} → held a ≡ [] → Holds [] a
+pub holds-nothing : {a : Line} → held a ≡ [] → HoldsText [] a
 unfolding clip
 holds-nothing e = record { holds = e }
 
-pub holds-first : {x : List ℕ} {a b : Line} → held a ≡ [] → Adds a x b → Holds x b
+pub holds-first : {x : List ℕ} {a b : Line} → held a ≡ [] → Adds a x b → HoldsText x b
 holds-first {x} {a} {b} e p = record { holds = p .adds ∙ ap (λ l. clip (l ++ x)) e }
 
-pub holds-then : {x y : List ℕ} {a b : Line} → Holds x a → Adds a y b → Holds (x ++ y) b
+pub holds-then : {x y : List ℕ} {a b : Line} → HoldsText x a → Adds a y b → HoldsText (x ++ y) b
 holds-then {x} {y} {a} {b} p q = record { holds = q .adds ∙ ap (λ l. clip (l ++ y)) (p .holds) ∙ clip-of-clip x y }
 
 -- a text that has room is held to its end
-pub held-all : {x : List ℕ} {r : Line} → length x ≤ room → Holds x r → held r ≡ x
+pub held-all : {x : List ℕ} {r : Line} → length x ≤ room → HoldsText x r → held r ≡ x
 unfolding clip
 held-all {x} {r} h p = p .holds ∙ take-all room x h
 

@@ -1,4 +1,4 @@
--- The longest lines of what can be registered and read: 111 bytes for an add, 93 for a cross.
+-- Every column has a largest width, and one line of each type reaches all of them: 111 bytes for an add, 93 for a cross.
 use mathlib.Core.Path.{_≡_, refl, subst}
 use mathlib.Core.List.{List, [], _∷_}
 use mathlib.Core.Bool.{Bool, true, false}

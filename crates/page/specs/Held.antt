@@ -17,7 +17,7 @@ unfoldable pub clip : List ℕ → List ℕ
 clip xs = take room xs
 
 -- r holds x, as far as there is room
-pub record Holds (x : List ℕ) (r : Line) : Type 0 where
+pub record HoldsText (x : List ℕ) (r : Line) : Type 0 where
   pub holds : held r ≡ clip x
 
 -- r holds what l holds and then x, as far as there is room

@@ -62,5 +62,5 @@ abbrev pub told : Book → Message → Registered
 told b m = toldOf (symbolIn (indexIn m) (view b))
 
 -- 3, 4, 5 and 14 hang on no name and no scale: what is refused so is refused of any book
-unfoldable pub Refuses : Write → List ℕ → Write → Type 0
-Refuses line out w = (k : ℕ) → k < 15 → line .outcome ≡ refused k → w ≡ refuse k out
+unfoldable pub RefusedAnyway : Write → List ℕ → Write → Type 0
+RefusedAnyway line out w = (k : ℕ) → k < 15 → line .outcome ≡ refused k → w ≡ refuse k out

@@ -14,7 +14,7 @@ use wire::Message;
 use wire::PLAIN;
 ghost use mathlib.Core.Path.{_≡_};
 ghost use Rattle.page.specs.Columns.{joined, further, rendered, opening, addColumns, crossColumns, columnsOf};
-ghost use Rattle.page.specs.Held.{held, Holds, Adds};
+ghost use Rattle.page.specs.Held.{held, HoldsText, Adds};
 
 // The firm of an add stands first in its byte array.
 const FIRM: usize = 5;
@@ -33,7 +33,7 @@ pub(crate) fn line_of(
 }
 
 fn columns_of(s: Registered, m: Message, plain: [u8; PLAIN], sequence: u32, second: u32) -> Line
-    ensures { λ r. ⌜ Holds (joined (columnsOf s m plain sequence second)) r ⌝ }
+    ensures { λ r. ⌜ HoldsText (joined (columnsOf s m plain sequence second)) r ⌝ }
 {
     match m {
         Message::Add {
@@ -62,7 +62,7 @@ fn columns_of(s: Registered, m: Message, plain: [u8; PLAIN], sequence: u32, seco
 
 // Every line begins with type, sequence number, time, symbol, symbol number.
 fn opened(number: u64, s: Registered, head: Head, sequence: u32, second: u32) -> Line
-    ensures { λ r. ⌜ Holds (joined (opening number s head sequence second)) r ⌝ }
+    ensures { λ r. ⌜ HoldsText (joined (opening number s head sequence second)) r ⌝ }
 {
     let name = s.name;
     let len = s.len;

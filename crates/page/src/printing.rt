@@ -14,7 +14,7 @@ ghost use Prim.Native.Nat.{_≤_};
 ghost use lib.ListN.{length, take, drop};
 ghost use Rattle.book.specs.State.{Wf};
 ghost use Rattle.page.specs.Held.{held, room};
-ghost use Rattle.page.specs.Printing.{printed, hasNoLine, laid, lineOf, Refuses, told};
+ghost use Rattle.page.specs.Printing.{printed, hasNoLine, laid, lineOf, RefusedAnyway, told};
 
 // The last second of a day.
 const LAST_SECOND: u32 = 86399;
@@ -30,7 +30,7 @@ pub fn line(
     out: &mut [u8],
 ) -> Printed
     ensures prints { λ r. ⌜ (Wf book → printed r (now (out .exit)) ≡ lineOf (told book m) m plain sequence second (now (out .entry))) ⌝ }
-    ensures refuses { λ r. ⌜ Refuses (lineOf (told book m) m plain sequence second (now (out .entry))) (now (out .entry)) (printed r (now (out .exit))) ⌝ }
+    ensures refuses { λ r. ⌜ RefusedAnyway (lineOf (told book m) m plain sequence second (now (out .entry))) (now (out .entry)) (printed r (now (out .exit))) ⌝ }
 {
     let s = book.symbol(wire::index_of(m));
     line_told(s, m, plain, sequence, second, out)

@@ -60,7 +60,7 @@ pub fn end_text(answer: u8, out: &mut [u8]) -> Printed
     emit(push(a, b'\n'), out)
 }
 
-// `Q,` with bid price, bid size, ask price, ask size, prices at the symbol's scale and none as empty fields; or with the number that refuses the quote.
+// `Q,` with price and size of the bid and then of the ask, prices at the symbol's scale and empty fields for none; or with the number that refuses the quote.
 pub fn quote_text(book: Book, index: u32, out: &mut [u8]) -> Printed
     ensures { λ r. ⌜ printed r (now (out .exit)) ≡ laid (quoteTextOf book index) (now (out .entry)) ⌝ }
 {

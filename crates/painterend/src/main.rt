@@ -1,4 +1,4 @@
-// The bureau's program: reads a file of messages laid end to end, in parts of at most 64 KiB, and prints lines, refusals and the last quote.
+// The bureau's program: it walks through a file of messages, part by part, and prints lines, refusals and the last quote.
 //
 // What a message does stands in `book`, what is printed of it in `page`, how leftovers open the next part in `parts`. Here are the file and the order of things.
 mod printing;

@@ -14,7 +14,7 @@ use Rattle.book.proofs.Positions.{stops-there}
 use Rattle.parts.specs.Parts.{stopped, leftOf}
 
 -- two walks from different positions find the same
-record Alike (at : ℕ) (w : Walk) (to : ℕ) (v : Walk) : Type 0 where
+record SameFound (at : ℕ) (w : Walk) (to : ℕ) (v : Walk) : Type 0 where
   messages : w .messages ≡ v .messages
   moved : w .at + to ≡ v .at + at
   answer : w .answer ≡ v .answer
@@ -22,10 +22,10 @@ record Alike (at : ℕ) (w : Walk) (to : ℕ) (v : Walk) : Type 0 where
 module _ (s t : List ℕ) where
   -- with the same bytes before them, and messages enough to spare
   abbrev Agree : ℕ → ℕ → Type 0
-  Agree f g = (at to : ℕ) → drop at s ≡ drop to t → length (drop at s) < f → length (drop at s) < g → Alike at (walkFor f s at) to (walkFor g t to)
+  Agree f g = (at to : ℕ) → drop at s ≡ drop to t → length (drop at s) < f → length (drop at s) < g → SameFound at (walkFor f s at) to (walkFor g t to)
 
   agree-on : (f g : ℕ) → Agree f g → (at to : ℕ) → drop at s ≡ drop to t → length (drop at s) < suc f → length (drop at s) < suc g → (x : Outcome ℕ) → reachOf (drop at s) ≡ x →
-      Alike at (walkBy x s at (λ e. walkFor f s e)) to (walkBy x t to (λ e. walkFor g t e))
+      SameFound at (walkBy x s at (λ e. walkFor f s e)) to (walkBy x t to (λ e. walkFor g t e))
   agree-on f g ih at to d h k (refused a) e = record { messages = refl; moved = omega arith; answer = refl }
   agree-on f g ih at to d h k (done n) e =
       let r = reached (drop at s) n e in
@@ -41,10 +41,10 @@ module _ (s t : List ℕ) where
   agree zero g at to d h k = absurd (not-suc-le-zero h)
   agree (suc f) g at to d h k = go (λ (j : ℕ). agree f j) g at to d h k
     where
-      go : ((j : ℕ) → Agree f j) → (g at to : ℕ) → drop at s ≡ drop to t → length (drop at s) < suc f → length (drop at s) < g → Alike at (walkFor (suc f) s at) to (walkFor g t to)
+      go : ((j : ℕ) → Agree f j) → (g at to : ℕ) → drop at s ≡ drop to t → length (drop at s) < suc f → length (drop at s) < g → SameFound at (walkFor (suc f) s at) to (walkFor g t to)
       go ih zero at to d h k = absurd (not-suc-le-zero k)
       go ih (suc j) at to d h k =
-          subst (λ (x : Outcome ℕ). Alike at (walkBy (reachOf (drop at s)) s at (λ e. walkFor f s e)) to (walkBy x t to (λ e. walkFor j t e))) (ap reachOf d)
+          subst (λ (x : Outcome ℕ). SameFound at (walkBy (reachOf (drop at s)) s at (λ e. walkFor f s e)) to (walkBy x t to (λ e. walkFor j t e))) (ap reachOf d)
           (agree-on f j (ih j) at to d h k (reachOf (drop at s)) refl)
 
 -- ---- one message at a time

@@ -1,4 +1,4 @@
--- The bytes left at the end of a part open the next one: document 01, "What the bureau's reader does".
+-- What a part leaves over comes first in the next: document 01, "What the bureau's reader does".
 use Prim.Native.Nat.{ℕ, _-_}
 use mathlib.Core.List.{List, _++_}
 use mathlib.Core.Bool.{Bool, true, false}

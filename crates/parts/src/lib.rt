@@ -1,4 +1,4 @@
-// Reading a file in parts: bytes left at the end of a part open the next one.
+// Reading a file in parts: what a part leaves over comes first in the next.
 ghost use mathlib.Core.Path.{_≡_};
 ghost use Rattle.parts.specs.Carry.{carried, carryOf};
 

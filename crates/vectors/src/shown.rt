@@ -4,7 +4,7 @@ use wire::Head;
 use wire::Message;
 
 // The scalar fields of a message after its head; the seconds, in form S, before it.
-struct Row {
+struct Scalars {
     timed: bool,
     seconds: u32,
     head: Head,
@@ -30,8 +30,8 @@ fn print_byte(b: u8) {
     io::print_hex(STDOUT_FILENO, b as u64, 2);
 }
 
-fn untimed(head: Head, count: usize, values: [u64; 6]) -> Row {
-    Row {
+fn untimed(head: Head, count: usize, values: [u64; 6]) -> Scalars {
+    Scalars {
         timed: false,
         seconds: 0,
         head,
@@ -40,8 +40,8 @@ fn untimed(head: Head, count: usize, values: [u64; 6]) -> Row {
     }
 }
 
-fn timed(head: Head, seconds: u32) -> Row {
-    Row {
+fn timed(head: Head, seconds: u32) -> Scalars {
+    Scalars {
         timed: true,
         seconds,
         head,
@@ -54,11 +54,11 @@ fn wide(x: u32) -> u64 {
     x as u64
 }
 
-fn letter(x: u8) -> u64 {
+fn byte(x: u8) -> u64 {
     x as u64
 }
 
-fn row_of(m: Message) -> Row {
+fn scalars_of(m: Message) -> Scalars {
     match m {
         Message::Add {
             head,
@@ -69,7 +69,7 @@ fn row_of(m: Message) -> Row {
         } => untimed(
             head,
             4,
-            [order, wide(price), wide(volume), letter(side), 0, 0],
+            [order, wide(price), wide(volume), byte(side), 0, 0],
         ),
         Message::Modify {
             head,
@@ -85,8 +85,8 @@ fn row_of(m: Message) -> Row {
                 order,
                 wide(price),
                 wide(volume),
-                letter(position),
-                letter(side),
+                byte(position),
+                byte(side),
                 0,
             ],
         ),
@@ -106,7 +106,7 @@ fn row_of(m: Message) -> Row {
                 wide(trade),
                 wide(price),
                 wide(volume),
-                letter(printable),
+                byte(printable),
                 0,
             ],
         ),
@@ -120,7 +120,7 @@ fn row_of(m: Message) -> Row {
         } => untimed(
             head,
             5,
-            [order, new_order, wide(price), wide(volume), letter(side), 0],
+            [order, new_order, wide(price), wide(volume), byte(side), 0],
         ),
         Message::Imbalance { head, seconds } => timed(head, seconds),
         Message::NonDisplayed {
@@ -136,7 +136,7 @@ fn row_of(m: Message) -> Row {
                 wide(trade),
                 wide(price),
                 wide(volume),
-                letter(printable),
+                byte(printable),
                 0,
                 0,
             ],
@@ -150,7 +150,7 @@ fn row_of(m: Message) -> Row {
         } => untimed(
             head,
             4,
-            [wide(cross), wide(price), wide(volume), letter(class), 0, 0],
+            [wide(cross), wide(price), wide(volume), byte(class), 0, 0],
         ),
         Message::TradeCancel { head, trade } => untimed(head, 1, [wide(trade), 0, 0, 0, 0, 0]),
         Message::CrossCorrection {
@@ -158,7 +158,7 @@ fn row_of(m: Message) -> Row {
             cross,
             volume,
         } => untimed(head, 2, [wide(cross), wide(volume), 0, 0, 0, 0]),
-        Message::Retail { head, indicator } => untimed(head, 1, [letter(indicator), 0, 0, 0, 0, 0]),
+        Message::Retail { head, indicator } => untimed(head, 1, [byte(indicator), 0, 0, 0, 0, 0]),
         Message::Clear { head, seconds } => timed(head, seconds),
         Message::Status { head, seconds } => timed(head, seconds),
     }
@@ -176,7 +176,7 @@ fn print_values(values: [u64; 6], count: usize) {
 
 // The type, then the fields in the order of document 01's table.
 pub(crate) fn print_message(m: Message) {
-    let r = row_of(m);
+    let r = scalars_of(m);
     let head = r.head;
     let values = r.values;
     print_number(wire::type_of(m) as u64);

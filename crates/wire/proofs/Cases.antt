@@ -45,13 +45,13 @@ module _ (s : List ℕ) where
   reach-size h k m = rw (le-ltb _ _ h, le-ltb _ _ k, le-ltb _ _ m)
 
 -- a message that is reached has its Msg Size, four bytes or more, all of them there
-pub record Reached (s : List ℕ) (n : ℕ) : Type 0 where
+pub record Reaches (s : List ℕ) (n : ℕ) : Type 0 where
   pub size : msgSize s ≡ n
   pub least : 4 ≤ n
   pub there : n ≤ length s
 
 reached-by : (s : List ℕ) (n : ℕ) (short below beyond : Bool) → ltb (msgSize s) 4 ≡ below → ltb (length s) (msgSize s) ≡ beyond →
-    reachBy short below beyond (msgSize s) ≡ done n → Reached s n
+    reachBy short below beyond (msgSize s) ≡ done n → Reaches s n
 unfolding reachBy
 reached-by s n true below beyond p q e = absurd (done-is-not-refused e)
 reached-by s n false true beyond p q e = absurd (done-is-not-refused e)
@@ -60,7 +60,7 @@ reached-by s n false false false p q e =
     let same : msgSize s ≡ n = cc in
     record { size = same; least = omega (arith, ltb-false (msgSize s) 4 p); there = omega (arith, ltb-false (length s) (msgSize s) q) }
 
-pub reached : (s : List ℕ) (n : ℕ) → reachOf s ≡ done n → Reached s n
+pub reached : (s : List ℕ) (n : ℕ) → reachOf s ≡ done n → Reaches s n
 unfolding reachOf
 reached s n e = reached-by s n (ltb (length s) 4) (ltb (msgSize s) 4) (ltb (length s) (msgSize s)) refl refl e
 

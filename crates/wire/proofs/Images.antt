@@ -14,7 +14,7 @@ use Rattle.wire.specs.Writing.{imageOf}
 use Rattle.wire.specs.RoundTrip.{Bytes}
 use Rattle.wire.proofs.Numbers.{length-littleEndian, littleEndian-of-slice}
 use Rattle.wire.proofs.Laying.{ends-rise}
-use Rattle.wire.proofs.Rows.{Fitting, slice-between, values-of-bytes, bytes-of-values, slices-join, length-of-bytes}
+use Rattle.wire.proofs.Rows.{WithinWidths, slice-between, values-of-bytes, bytes-of-values, slices-join, length-of-bytes}
 
 -- ---- the bytes of a message with anything behind them
 module _ (l : Layout) (sane : Sane l) (type : ℕ) (f : Fields) (plain rest : List ℕ) (long : length plain ≡ plainRoom) where
@@ -59,7 +59,7 @@ module _ (l : Layout) (sane : Sane l) (type : ℕ) (f : Fields) (plain rest : Li
   pub image-array : slice (l .plain) (l .pad) stream ≡ array
   image-array = rw in-three (slice-between numbers array (last ++ rest) (l .plain) (l .pad) length-numbers (omega arith) length-array)
 
-  module _ (fit : Fitting 0 (endsOf l) (valuesOf (l .size) type f)) where
+  module _ (fit : WithinWidths 0 (endsOf l) (valuesOf (l .size) type f)) where
     nth : (i : ℕ) → getD (valuesAt 0 (endsOf l) stream) i 0 ≡ getD (valuesOf (l .size) type f) i 0
     nth i =
         ap (λ (v : List ℕ). getD v i 0)

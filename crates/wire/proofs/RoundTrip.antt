@@ -22,8 +22,8 @@ use Rattle.wire.specs.Writing.{imageOf, writeSized, writeBy, writeShape,
 use Rattle.wire.specs.RoundTrip.{InRange, Bytes, arrayWidth, sameMessage, ReadsBack, ReservedZero, WritesBack}
 use Rattle.wire.proofs.Numbers.{value-empty}
 use Rattle.wire.proofs.Layouts.{AllRows, by-rows, layout-sane}
-use Rattle.wire.proofs.Cases.{done-is-not-refused, Reached, reached, reach-size, read-reached, read-size, read-good, write-good}
-use Rattle.wire.proofs.Rows.{Fitting}
+use Rattle.wire.proofs.Cases.{done-is-not-refused, Reaches, reached, reach-size, read-reached, read-size, read-good, write-good}
+use Rattle.wire.proofs.Rows.{WithinWidths}
 use Rattle.wire.proofs.Images.{image-there, image-array, image-size, image-type, image-fields, image-of-read}
 
 -- ---- each message and its layout
@@ -38,7 +38,7 @@ at-row P n l e p = subst P (ap (λ (x : Shape). layoutIn x l) e) p
 
 -- its fields fit the layout of its type, and make the message again
 record Suits (m : Message) (l : Layout) : Type 0 where
-  pub fit : Fitting 0 (endsOf l) (valuesOf (l .size) (typeOf m) (fieldsOf m))
+  pub fit : WithinWidths 0 (endsOf l) (valuesOf (l .size) (typeOf m) (fieldsOf m))
   pub again : messageOf (l .kind) (fieldsOf m) ≡ m
 
 suits : (m : Message) (l : Layout) → shapeOf (typeOf m) ≡ Shape.Known l → InRange (fieldsOf m) → Suits m l
@@ -141,7 +141,7 @@ module _ (s : List ℕ) (bytes : Bytes s) (m : Message) (out : List ℕ) where
   sized l n true q e = eqb-true n (l .size) q
   sized l n false q e = absurd (done-is-not-refused e)
 
-  back-shape : (n : ℕ) → Reached s n → (x : Shape) → shapeOf (msgType s) ≡ x → readShape x s n .outcome ≡ done m → ReservedZero x s → msgSize s ≤ length out → WroteAll (readShape x s n)
+  back-shape : (n : ℕ) → Reaches s n → (x : Shape) → shapeOf (msgType s) ≡ x → readShape x s n .outcome ≡ done m → ReservedZero x s → msgSize s ≤ length out → WroteAll (readShape x s n)
   unfolding readShape
   back-shape n r Shape.Unknown q e zero room = absurd (done-is-not-refused e)
   back-shape n r (Shape.Known l) q e zero room =

@@ -16,12 +16,12 @@ slice-between pre d post a e p h q =
     rw (take-at (pre ++ d) post e r, drop-at pre d a p)
 
 -- each number fits the width up to its end
-abbrev pub Fitting : ℕ → List ℕ → List ℕ → Type 0
-Fitting a [] v = Unit {0}
-Fitting a (e ∷ es) [] = Unit {0}
-Fitting a (e ∷ es) (x ∷ v) = (x < 256 ^ (e - a)) × Fitting e es v
+abbrev pub WithinWidths : ℕ → List ℕ → List ℕ → Type 0
+WithinWidths a [] v = Unit {0}
+WithinWidths a (e ∷ es) [] = Unit {0}
+WithinWidths a (e ∷ es) (x ∷ v) = (x < 256 ^ (e - a)) × WithinWidths e es v
 
-pub values-of-bytes : (ends v : List ℕ) (n a : ℕ) (pre rest : List ℕ) → length ends ≡ length v → length pre ≡ a → Rising a ends n → Fitting a ends v →
+pub values-of-bytes : (ends v : List ℕ) (n a : ℕ) (pre rest : List ℕ) → length ends ≡ length v → length pre ≡ a → Rising a ends n → WithinWidths a ends v →
     valuesAt a ends (pre ++ bytesOf a ends v ++ rest) ≡ v
 values-of-bytes [] [] n a pre rest k p r f = refl
 values-of-bytes [] (x ∷ v) n a pre rest k p r f = absurd (omega arith)

@@ -1,5 +1,5 @@
 //! From bytes to a message. The checks run in the order of document 01, "Numbers answered":
-//! four bytes there, Msg Size below 4, Msg Size beyond the rest, type, size, fields.
+//! is there a header, is the size too small or past the end, then type, size and fields.
 
 use super::bytes::{array_at, u16_at, u32_at, u64_at};
 use super::message::*;

@@ -2,7 +2,7 @@
 use mathlib.Core.Path.{_≡_, refl}
 use Prim.Native.Nat.{_≤_, _-_}
 use native.Mathlib.Omega.{arith}
-use Rattle.places.proofs.Emptied.{Emptied, emptied-none, emptied-more}
+use Rattle.places.proofs.Emptied.{EmptiedTo, emptied-none, emptied-more}
 use Rattle.book.specs.State.{ordersEach, noOrder}
 use Rattle.book.proofs.Sizes.{orders-reach}
 use borrow.Author.Needs.{needs}
@@ -10,7 +10,7 @@ use Rattle.book.proofs.Book.empty.Statement.{statement}
 use Rattle.book.proofs.Book.empty.Tie as tie
 
 abbrev Inv-loop : tie.InvT-loop
-Inv-loop self k base none orders₀ j₀ orders j = (j ≤ ordersEach) × Emptied ordersEach k noOrder (self .orders) orders j
+Inv-loop self k base none orders₀ j₀ orders j = (j ≤ ordersEach) × EmptiedTo ordersEach k noOrder (self .orders) orders j
 
 abbrev μ-loop : tie.MeasureT-loop
 μ-loop self k base none orders₀ j₀ orders j = ordersEach - j

@@ -3,7 +3,7 @@ use mathlib.Core.Path.{sym, subst}
 use borrow.Author.Needs.{needs}
 use Rattle.wire.specs.declared.Message.{Message}
 use Rattle.page.specs.Columns.{addColumns, crossColumns, joined, columnsOf}
-use Rattle.page.specs.Held.{Holds}
+use Rattle.page.specs.Held.{HoldsText}
 use Rattle.page.proofs.Holding.{holds-nothing}
 use Rattle.page.proofs.Columns.{opening-then, no-columns}
 use Rattle.page.proofs.lines.columns_of.Statement.{statement}
@@ -36,7 +36,7 @@ returns c =
     let a = k .before .before .args in
     let f = k .m .given .0 in
     let own = addColumns (a .s .scale) (f .1 .0) (f .1 .1 .0) (f .1 .1 .1 .0) (f .1 .1 .1 .1 .0) (a .plain) in
-    subst (λ (m : Message). Holds (joined (columnsOf (a .s) m (a .plain) (a .sequence) (a .second))) (c .add-columns .result)) (sym (k .m .given .1))
+    subst (λ (m : Message). HoldsText (joined (columnsOf (a .s) m (a .plain) (a .sequence) (a .second))) (c .add-columns .result)) (sym (k .m .given .1))
     (opening-then 100 (a .s) (f .0) (a .sequence) (a .second) own (c .before .opened .ensures) (c .add-columns .ensures))
 
 returns-2 : tie.Need-returns-2
@@ -45,7 +45,7 @@ returns-2 c =
     let a = k .before .before .args in
     let f = k .m2 .given .0 in
     let own = crossColumns (a .s .scale) (f .1 .0) (f .1 .1 .0) (f .1 .1 .1 .0) (f .1 .1 .1 .1 .0) in
-    subst (λ (m : Message). Holds (joined (columnsOf (a .s) m (a .plain) (a .sequence) (a .second))) (c .cross-columns .result)) (sym (k .m2 .given .1))
+    subst (λ (m : Message). HoldsText (joined (columnsOf (a .s) m (a .plain) (a .sequence) (a .second))) (c .cross-columns .result)) (sym (k .m2 .given .1))
     (opening-then 111 (a .s) (f .0) (a .sequence) (a .second) own (c .before .opened2 .ensures) (c .cross-columns .ensures))
 
 returns-3 : tie.Need-returns-3

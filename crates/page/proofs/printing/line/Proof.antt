@@ -5,7 +5,7 @@ use borrow.Author.Needs.{needs}
 use Rattle.book.specs.State.{view, symbolIn}
 use Rattle.book.specs.Registering.{toldOf}
 use Rattle.book.specs.declared.symbols.Registered.{Registered}
-use Rattle.page.specs.Printing.{lineOf, Refuses, told}
+use Rattle.page.specs.Printing.{lineOf, RefusedAnyway, told}
 use Rattle.page.proofs.Cases.{line-refuses}
 use Rattle.page.proofs.printing.line.Statement.{statement}
 use Rattle.page.proofs.printing.line.Tie as tie
@@ -27,7 +27,7 @@ asked : (k : tie.After-symbol) → toldOf (symbolIn (k .before .index-of .result
 asked k = ap (λ i. toldOf (symbolIn i (view (k .before .before .before .args .book)))) (k .before .index-of .ensures)
 
 returns : tie.Need-returns
-unfolding Refuses
+unfolding RefusedAnyway
 returns c =
     let k = c .before .before .before .before in
     let a = k .before .before .before .args in
