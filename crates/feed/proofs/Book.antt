@@ -7,7 +7,7 @@ use mathlib.Core.Path.{_≡_, refl, sym, _∙_, ap}
 use lib.Dec.{eqb}
 use borrow.Author.Tests.{eqb-true, eqb-false}
 use Rattle.feed.specs.Reader.{Act, indexOf, Rules, Kept, meets, answerOf, afterOf, expecting, quoted, quoteOf, New, unregistered, registered, Reader, Registered, quote}
-use Rattle.feed.specs.Feed.{messageIn, Feed, start, _▷_, first, Accepted}
+use Rattle.feed.specs.Feed.{heard, lost, Feed, start, _▷_, first, Accepted}
 use Rattle.feed.specs.Book.{bookAfter, bookOf, turnAfter, turnOf, Follows, Orderly}
 use Rattle.feed.proofs.Meets.{done-in-turn, done-after, in-turn-done, own-at, says-at}
 
@@ -46,7 +46,8 @@ module _ (R : Rules) (D : Reader R) (s₀ : D .State) (new : (i : ℕ) → New R
   pub first-keeps : (f : Feed (R .Effect)) → Accepted R D s₀ f → (i : ℕ) → Registered R D s₀ i → D .kept (first R D s₀ f) i ≡ some (expecting (turnOf R i f) (bookOf R i f))
   unfolding first Accepted turnOf bookOf
   first-keeps start a i y = new-registered R (new i) y
-  first-keeps (f ▷ it) a i y = step-made R D (first R D s₀ f) (messageIn it) i (turnOf R i f) (bookOf R i f) (eqb i (indexOf (messageIn it))) refl (first-keeps f (a .0) i y) (a .1)
+  first-keeps (f ▷ heard m) a i y = step-made R D (first R D s₀ f) m i (turnOf R i f) (bookOf R i f) (eqb i (indexOf m)) refl (first-keeps f (a .0) i y) (a .1)
+  first-keeps (f ▷ lost m) a i y = step-made R D (first R D s₀ f) m i (turnOf R i f) (bookOf R i f) (eqb i (indexOf m)) refl (first-keeps f (a .0) i y) (a .1)
 
   -- the reader that receives all quotes demand 2's book, at every moment
   pub first-quotes-the-book : (f : Feed (R .Effect)) → Accepted R D s₀ f → (i : ℕ) → Registered R D s₀ i → quote R D (first R D s₀ f) i ≡ quoted (R .shows (bookOf R i f))
@@ -57,7 +58,8 @@ module _ (R : Rules) (D : Reader R) (s₀ : D .State) (new : (i : ℕ) → New R
   first-some : (f : Feed (R .Effect)) (i : ℕ) → Registered R D (first R D s₀ f) i → Registered R D s₀ i
   unfolding first
   first-some start i y = y
-  first-some (f ▷ it) i y = first-some f i (step-some R D (first R D s₀ f) (messageIn it) i (eqb i (indexOf (messageIn it))) refl y)
+  first-some (f ▷ heard m) i y = first-some f i (step-some R D (first R D s₀ f) m i (eqb i (indexOf m)) refl y)
+  first-some (f ▷ lost m) i y = first-some f i (step-some R D (first R D s₀ f) m i (eqb i (indexOf m)) refl y)
 
   -- A message follows an accepted feed just if the reader answers 0
   follows : (f : Feed (R .Effect)) (m : Act (R .Effect)) → Accepted R D s₀ f → D .answer (first R D s₀ f) m ≡ 0 → Follows R D s₀ f m
@@ -76,9 +78,11 @@ module _ (R : Rules) (D : Reader R) (s₀ : D .State) (new : (i : ℕ) → New R
   pub orderly-accepted : (f : Feed (R .Effect)) → Orderly R D s₀ f → Accepted R D s₀ f
   unfolding Orderly Accepted
   orderly-accepted start o = tt
-  orderly-accepted (f ▷ it) o = let a = orderly-accepted f (o .0) in (a, done-next f (messageIn it) a (o .1))
+  orderly-accepted (f ▷ heard m) o = let a = orderly-accepted f (o .0) in (a, done-next f m a (o .1))
+  orderly-accepted (f ▷ lost m) o = let a = orderly-accepted f (o .0) in (a, done-next f m a (o .1))
 
   pub accepted-orderly : (f : Feed (R .Effect)) → Accepted R D s₀ f → Orderly R D s₀ f
   unfolding Orderly Accepted
   accepted-orderly start a = tt
-  accepted-orderly (f ▷ it) a = (accepted-orderly f (a .0), follows f (messageIn it) (a .0) (a .1))
+  accepted-orderly (f ▷ heard m) a = (accepted-orderly f (a .0), follows f m (a .0) (a .1))
+  accepted-orderly (f ▷ lost m) a = (accepted-orderly f (a .0), follows f m (a .0) (a .1))

@@ -4,7 +4,7 @@ use mathlib.Core.Bool.{cond}
 use mathlib.Core.Path.{_≡_}
 use lib.Dec.{eqb}
 use Rattle.feed.specs.Reader.{Fit, fits, misfit, no-room, Act, clear, numbered, indexOf, Rules, Reader, Registered}
-use Rattle.feed.specs.Feed.{messageIn, Feed, start, _▷_}
+use Rattle.feed.specs.Feed.{Feed, start, _▷_, heard, lost}
 
 module _ {O : Type 0} where
   -- what does not fit, or has no room, changes no order
@@ -26,7 +26,8 @@ module _ (R : Rules) where
 
   unfoldable pub bookOf : ℕ → Feed (R .Effect) → R .Orders
   bookOf i start = R .empty
-  bookOf i (f ▷ it) = cond (eqb i (indexOf (messageIn it))) (bookAfter (bookOf i f) (messageIn it)) (bookOf i f)
+  bookOf i (f ▷ heard m) = cond (eqb i (indexOf m)) (bookAfter (bookOf i f) m) (bookOf i f)
+  bookOf i (f ▷ lost m) = cond (eqb i (indexOf m)) (bookAfter (bookOf i f) m) (bookOf i f)
 
   -- The number in turn after a message of the symbol, and after all of a feed
   unfoldable pub turnAfter : ℕ → Act (R .Effect) → ℕ
@@ -35,7 +36,8 @@ module _ (R : Rules) where
 
   unfoldable pub turnOf : ℕ → Feed (R .Effect) → ℕ
   turnOf i start = 1
-  turnOf i (f ▷ it) = cond (eqb i (indexOf (messageIn it))) (turnAfter (turnOf i f) (messageIn it)) (turnOf i f)
+  turnOf i (f ▷ heard m) = cond (eqb i (indexOf m)) (turnAfter (turnOf i f) m) (turnOf i f)
+  turnOf i (f ▷ lost m) = cond (eqb i (indexOf m)) (turnAfter (turnOf i f) m) (turnOf i f)
 
   -- A message in its turn: a clear, or a numbered one that has the number in turn and fits
   unfoldable pub InTurn : ℕ → R .Orders → Act (R .Effect) → Type 0
@@ -49,4 +51,5 @@ module _ (R : Rules) where
 
     unfoldable pub Orderly : Feed (R .Effect) → Type 0
     Orderly start = Unit {0}
-    Orderly (f ▷ it) = Orderly f × Follows f (messageIn it)
+    Orderly (f ▷ heard m) = Orderly f × Follows f m
+    Orderly (f ▷ lost m) = Orderly f × Follows f m

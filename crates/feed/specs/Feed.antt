@@ -11,11 +11,6 @@ pub data Item (E : Type 0) : Type 0 where
   heard : Act E → Item E
   lost : Act E → Item E
 
--- what the first reader receives
-abbrev pub messageIn : {E : Type 0} → Item E → Act E
-messageIn (heard m) = m
-messageIn (lost m) = m
-
 -- A feed up to a moment, the last message outermost. So every feed is a moment, and what stands inside it are the earlier ones.
 infixl 50 _▷_
 pub data Feed (E : Type 0) : Type 0 where
@@ -63,7 +58,8 @@ module _ (R : Rules) (D : Reader R) where
   -- the first reader, which receives all of the feed
   unfoldable pub first : D .State → Feed (R .Effect) → D .State
   first s₀ start = s₀
-  first s₀ (f ▷ it) = D .step (first s₀ f) (messageIn it)
+  first s₀ (f ▷ heard m) = D .step (first s₀ f) m
+  first s₀ (f ▷ lost m) = D .step (first s₀ f) m
 
   -- the second one, which receives all but what is lost
   unfoldable pub second : D .State → Feed (R .Effect) → D .State
@@ -74,7 +70,8 @@ module _ (R : Rules) (D : Reader R) where
   -- the first reader applies the feed without one refusal
   unfoldable pub Accepted : D .State → Feed (R .Effect) → Type 0
   Accepted s₀ start = Unit {0}
-  Accepted s₀ (f ▷ it) = Accepted s₀ f × (D .answer (first s₀ f) (messageIn it) ≡ 0)
+  Accepted s₀ (f ▷ heard m) = Accepted s₀ f × (D .answer (first s₀ f) m ≡ 0)
+  Accepted s₀ (f ▷ lost m) = Accepted s₀ f × (D .answer (first s₀ f) m ≡ 0)
 
   -- What demand 3 takes as given: two readers, new and with the same symbols registered, each in an order of its own; a feed that the first of them accepts, and
   -- of which the second may lose what is numbered
