@@ -7,8 +7,12 @@ use book::Book;
 use libc::STDERR_FILENO;
 use printing::print_end;
 use printing::print_passed;
+ghost use mathlib.Core.Bool.{true, false};
+ghost use mathlib.Core.Path.{_≡_};
 ghost use Prim.Native.Nat.{_≤_};
-ghost use lib.ListN.{length};
+ghost use lib.ListN.{length, take};
+ghost use Rattle.book.specs.Walk.{Runs};
+ghost use Rattle.painterend.specs.Between.{HandsOn};
 
 // The symbol that is registered.
 const INDEX: u32 = 7;
@@ -32,9 +36,9 @@ struct Walked {
     printed: bool,
 }
 
-// Applies the messages of a part, from its start, and prints the text of each.
+// Applies the messages of a part, from its start, and prints the text of each. Where all could be printed, it comes to what a run over the part does.
 fn walk(book: Book, part: &[u8], place: u64) -> Walked
-    ensures { λ r. ⌜ r .at ≤ length (now (part .entry)) ⌝ }
+    ensures { λ r. ⌜ (r .at ≤ length (now (part .entry))) × (r .printed ≡ true → Runs book (now (part .entry)) 0 (record { book = r .book; at = r .at; answer = r .answer })) ⌝ }
 {
     let mut b = book;
     let mut p = place;
@@ -46,7 +50,7 @@ fn walk(book: Book, part: &[u8], place: u64) -> Walked
             return Walked {
                 book: next,
                 place: p,
-                at,
+                at: m.at,
                 answer: m.answer,
                 printed: true,
             };
@@ -67,7 +71,9 @@ fn walk(book: Book, part: &[u8], place: u64) -> Walked
     }
 }
 
-fn over(book: Book, place: u64) -> State {
+fn over(book: Book, place: u64) -> State
+    ensures { λ r. ⌜ r .«goes_on» ≡ false ⌝ }
+{
     State {
         book,
         place,
@@ -77,7 +83,9 @@ fn over(book: Book, place: u64) -> State {
 }
 
 // Prints the end, after which nothing more is read.
-fn ended(book: Book, place: u64, answer: u8) -> State {
+fn ended(book: Book, place: u64, answer: u8) -> State
+    ensures { λ r. ⌜ r .«goes_on» ≡ false ⌝ }
+{
     if !print_end(book, INDEX, answer) {
         os::fail(b"standard output");
     }
@@ -108,6 +116,7 @@ fn fill(fd: i32, buffer: &mut [u8], kept: usize) -> Filled
 // Walks through what is filled, and carries what is left to the front.
 fn walk_filled(buffer: &mut [u8], full: usize, book: Book, place: u64) -> State
     requires { ⌜ full ≤ length (now buffer) ⌝ }
+    ensures { λ r. ⌜ (r .«goes_on» ≡ true → HandsOn book (take full (now (buffer .entry))) r (now (buffer .exit))) ⌝ }
 {
     let w = walk(book, &buffer[..full], place);
     let next = w.book;

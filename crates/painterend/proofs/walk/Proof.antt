@@ -1,15 +1,18 @@
--- Each message that does not stop the walk lies within the part (`goes-on`), so that what is left of the part falls.
+-- What is left of the walk from here gives what a run over the part gives (`Left`), and each message that does not stop it lies within the part.
+use mathlib.Core.Bool.{false≢true}
+use mathlib.Core.Path.{_≡_, ap}
 use Prim.Native.Nat.{_≤_, _<_, _-_}
 use native.Mathlib.Omega.{arith}
 use denote.Ref.{now}
 use lib.ListN.{length}
-use Rattle.book.proofs.Walking.{goes-on}
+use Rattle.book.specs.declared.walk.Moved.{Moved}
+use Rattle.book.proofs.Walking.{Left, left-all, left-on, left-end, goes-on}
 use borrow.Author.Needs.{needs}
 use Rattle.painterend.proofs.walk.Statement.{statement}
 use Rattle.painterend.proofs.walk.Tie as tie
 
 abbrev Inv-loop : tie.InvT-loop
-Inv-loop part place b₀ p₀ at₀ b p at = at ≤ length part
+Inv-loop part place b₀ p₀ at₀ b p at = (at ≤ length part) × Left part at₀ b₀ at b
 
 abbrev μ-loop : tie.MeasureT-loop
 μ-loop part place b₀ p₀ at₀ b p at = length part - at
@@ -19,13 +22,17 @@ on : (k : tie.Else1 Inv-loop μ-loop) → (k .before .before .before .loop .at <
 on k = goes-on (k .before .before .before .loop .b) (now (k .before .before .before .before .before .args .part)) (k .before .before .before .loop .at) (k .before .before .apply .result) (k .before .before .apply .ensures) (k .if1 .left)
 
 loop-holds : tie.Need-loop-holds Inv-loop μ-loop
-loop-holds c = search needs
+loop-holds c = (omega arith, left-all _ _ _)
 
 apply-requires : tie.Need-apply-requires Inv-loop μ-loop
 apply-requires c κs = search needs
 
 returns : tie.Need-returns Inv-loop μ-loop
-returns c = search needs
+returns c =
+    let p = c .before .before .before .loop in
+    let m = c .before .before .apply .ensures in
+    let still : c .before .before .apply .result .at ≡ p .at = ap (λ (x : Moved). x .at) (m .stopped (c .if1 .taken)) in
+    (omega (arith, still, p .inv .0), λ e. left-end _ _ _ _ m _ _ (c .if1 .taken) (p .inv .1))
 
 wrapping-add-u64-requires : tie.Need-wrapping-add-u64-requires Inv-loop μ-loop
 wrapping-add-u64-requires c κs = search needs
@@ -43,13 +50,15 @@ print-passed-requires : tie.Need-print-passed-requires Inv-loop μ-loop
 print-passed-requires c κs = search needs
 
 returns-2 : tie.Need-returns-2 Inv-loop μ-loop
-returns-2 c = search needs
+returns-2 c = (c .before .before .before .before .before .before .before .loop .inv .0, λ e. absurd (false≢true e))
 
 loop-less : tie.Need-loop-less Inv-loop μ-loop
 loop-less c = omega (arith, on (c .before .before .before .before) .0, on (c .before .before .before .before) .1)
 
 loop-again : tie.Need-loop-again Inv-loop μ-loop
-loop-again c = on (c .before .before .before .before) .1
+loop-again c =
+    let k = c .before .before .before .before in
+    (on k .1, left-on _ _ _ _ (k .before .before .apply .ensures) _ _ (k .if1 .left) (k .before .before .before .loop .inv .1))
 
 pub walk-spec : {M : Type 1} → statement M
 walk-spec =
