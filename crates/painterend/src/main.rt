@@ -100,7 +100,7 @@ struct Filled {
 
 // Reads once, behind the bytes that are kept.
 fn fill(fd: i32, buffer: &mut [u8], kept: usize) -> Filled
-    ensures { λ r. ⌜ r .full ≤ length (now (buffer .exit)) ⌝ }
+    ensures { λ r. ⌜ (r .full ≤ length (now (buffer .exit))) × (take kept (now (buffer .exit)) ≡ take kept (now (buffer .entry))) ⌝ }
 {
     if buffer.len() < kept {
         return Filled { got: 0, full: 0 };
