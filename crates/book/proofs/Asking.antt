@@ -1,48 +1,65 @@
 -- A question about an index is answered from the symbol at its place, or from none.
 use mathlib.Core.Bool.{false}
+use mathlib.Core.Option.{Option, Option·map}
 use mathlib.Core.Path.{_≡_, sym, ap, _∙_}
 use Prim.Native.Nat.{ℕ, _<_, _≤_}
-use lib.ListN.{length, take, replicate}
-use lib.Seq.{length-take-le}
-use Rattle.places.specs.Places.{sumBy}
-use Rattle.book.specs.State.{symbols, nameBytes, headAt, ordersAt, tradesAt, view, placeOf}
-use Rattle.book.specs.Registering.{toldOf, Told}
-use Rattle.book.specs.Quote.{noQuote, quotedIf, quoted, quoteOf, sharesIn, volumeIn, volumeOf}
+use Rattle.places.specs.Places.{symbols}
+use Rattle.places.proofs.EightShelves.{by-place}
+use Rattle.symbols.specs.State.{Entry, entries, itself, placeOf, foundIn}
+use Rattle.symbols.specs.Turns.{standingOf}
+use Rattle.symbols.specs.Registering.{toldOf}
+use Rattle.symbols.specs.Promises as symbols-promises
+use Rattle.symbols.specs.declared.Standing.{Standing}
+use Rattle.symbols.specs.declared.registering.Listing.{Listing}
+use Rattle.symbols.proofs.Entries.{length-entries}
+use Rattle.symbols.proofs.Finding.{missing}
+use Rattle.record.specs.Rules.{sharesOf}
+use Rattle.book.specs.State.{entryAt, ordersAt, tradesAt, view, entryOf, symbolIn}
+use Rattle.book.specs.Registering.{toldIn, Told}
+use Rattle.book.specs.Quote.{noQuote, quotedIf, quoted, quoteOf, volumeIn, volumeOf}
 use Rattle.book.specs.declared.Book.{Book}
-use Rattle.book.proofs.Views.{symbol-missing, registered-at}
-use Rattle.book.proofs.Names.{length-padded}
+use Rattle.book.proofs.Views.{place-is, symbol-missing, symbol-at}
+
+-- the symbols were asked for the place of an index
+module _ (b : Book) (index k : ℕ) (place : k ≡ placeOf itself index (entries (b .symbols))) where
+  is : k ≡ placeOf entryOf index (view b)
+  is = place ∙ place-is b index
+
+  module _ (h : symbols ≤ k) where
+    pub quote-missing : noQuote 5 ≡ quoteOf index (view b)
+    unfolding quoteOf
+    quote-missing = sym (ap quoted (symbol-missing b index (rw is at h)))
+
+    pub volume-missing : record { answer = 5; shares = 0; whole = false } ≡ volumeOf index (view b)
+    unfolding volumeOf
+    volume-missing = sym (ap volumeIn (symbol-missing b index (rw is at h)))
+
+  -- and then for where it stands
+  module _ (h : k < symbols) (s : Standing) (standing : s ≡ standingOf (entryAt b k)) where
+    stands : s ≡ symbol-at b index k is h .entry .standing
+    unfolding standingOf
+    stands = standing ∙ ap standingOf (symbol-at b index k is h .at)
+
+    pub quote-at : quotedIf (s .stale) (ordersAt b k) ≡ quoteOf index (view b)
+    unfolding quoteOf
+    quote-at = sym (ap quoted (symbol-at b index k is h .there) ∙ ap (λ (x : Standing). quotedIf (x .stale) (ordersAt b k)) (sym stands))
+
+    pub volume-at : record { answer = 0; shares = sharesOf (tradesAt b k); whole = s .whole } ≡ volumeOf index (view b)
+    unfolding volumeOf
+    volume-at = sym (ap volumeIn (symbol-at b index k is h .there) ∙ ap (λ (x : Standing). record { answer = 0; shares = sharesOf (tradesAt b k); whole = x .whole }) (sym stands))
 
 module _ (b : Book) (index : ℕ) where
-  module _ (h : symbols ≤ placeOf index (view b)) where
-    pub quote-missing : quoteOf index (view b) ≡ noQuote 5
-    unfolding quoteOf
-    quote-missing = ap quoted (symbol-missing b index h)
+  -- the entry found is that of the symbol found
+  same-entry : foundIn itself index (entries (b .symbols)) ≡ Option·map entryOf (symbolIn index (view b))
+  unfolding foundIn
+  same-entry = by-place (placeOf itself index (entries (b .symbols)))
+      (λ h. let f = symbol-at b index (placeOf itself index (entries (b .symbols))) (place-is b index) h in f .at ∙ sym (ap (Option·map entryOf) (f .there)))
+      (λ h. missing itself (entries (b .symbols)) index (rw (length-entries (b .symbols)) h) ∙ sym (ap (Option·map entryOf) (symbol-missing b index (rw (place-is b index) at h))))
 
-    pub volume-missing : volumeOf index (view b) ≡ record { answer = 5; shares = 0; whole = false }
-    unfolding volumeOf
-    volume-missing = ap volumeIn (symbol-missing b index h)
-
-    pub told-missing : Told b index (record { answer = 5; name = replicate nameBytes 0; len = 0; scale = 0 })
-    unfolding toldOf
-    told-missing = record { answer = rw (symbol-missing b index h); scale = rw (symbol-missing b index h); obeys = λ w. rw (symbol-missing b index h) }
-
-  module _ (k : ℕ) (is : k ≡ placeOf index (view b)) (in-range : k < symbols) where
-    pub quote-at : quoteOf index (view b) ≡ quotedIf (headAt b k .stale) (ordersAt b k)
-    unfolding quoteOf
-    quote-at = ap quoted (registered-at b index k is in-range .there)
-
-    pub volume-at : volumeOf index (view b) ≡ record { answer = 0; shares = sumBy sharesIn (tradesAt b k); whole = headAt b k .whole }
-    unfolding volumeOf
-    volume-at = ap volumeIn (registered-at b index k is in-range .there)
-
-    pub told-at : Told b index (record { answer = 0; name = headAt b k .name; len = headAt b k .len; scale = headAt b k .scale })
-    unfolding toldOf
-    told-at = record {
-      answer = rw (registered-at b index k is in-range .there);
-      scale = rw (registered-at b index k is in-range .there);
-      obeys = λ w.
-          let s = w .sound k in-range in
-          let long : length (headAt b k .name) ≡ nameBytes = ap length (s .zeros) ∙ length-padded _ in
-          let len : length (take (headAt b k .len) (headAt b k .name)) ≡ headAt b k .len = length-take-le (headAt b k .len) (headAt b k .name) (rw long (s .short)) in
-          rw (registered-at b index k is in-range .there) (λ i. record { answer = 0; name = s .zeros i; len = sym len i; scale = headAt b k .scale });
-    }
+  pub tells : (r : Listing) → symbols-promises.Told (b .symbols) index r → Told b index r
+  unfolding toldIn
+  tells r t = record {
+    answer = t .answer ∙ ap (λ (x : Option Entry). toldOf x .answer) same-entry;
+    scale = t .scale ∙ ap (λ (x : Option Entry). toldOf x .scale) same-entry;
+    obeys = λ w. t .obeys (w .names) ∙ ap toldOf same-entry;
+  }

@@ -1,28 +1,38 @@
--- In a new state every place is the same empty one, so nothing is live anywhere.
-use mathlib.Core.Path.{refl}
-use Prim.Native.Nat.{ℕ, _*_}
-use native.Mathlib.Omega.{arith}
-use lib.ListN.{replicate, getD-replicate}
-use Rattle.places.specs.Places.{tabulate, has}
-use Rattle.places.proofs.Parts.{part-replicated}
-use Rattle.places.proofs.Emptied.{nothing-live, nothing-counted}
-use Rattle.book.specs.State.{symbols, ordersEach, tradesEach, noOrder, noTrade, vacant, nobody, orderNumber, orderLive, tradeNumber, tradeLive, ordersIn, tradesIn, view, paddedName, Sound, Fresh}
+-- In a new state nobody is registered, no order is live and no trade is kept.
+use mathlib.Core.List.{List}
+use mathlib.Core.Option.{Option, none}
+use mathlib.Core.Path.{_≡_, refl, ap}
+use Prim.Native.Nat.{ℕ}
+use lib.ListN.{getD}
+use Rattle.places.specs.Places.{symbols, tabulate, firstWhere}
+use Rattle.symbols.specs.State.{Entry, placeOf, foundIn, nobody}
+use Rattle.symbols.proofs.Entries.{nobody-sound, nobody-there}
+use Rattle.orders.specs.State.{liveAt, noOrders}
+use Rattle.orders.proofs.Holding as orders-held
+use Rattle.orders.proofs.Holding.{no-orders-sound}
+use Rattle.record.specs.State.{keptAt, noTrades}
+use Rattle.record.proofs.Holding as record-held
+use Rattle.record.proofs.Holding.{no-trades-sound}
+use Rattle.book.specs.State.{view, symbolIn, newView, Fresh}
 use Rattle.book.specs.declared.Book.{Book}
+use Rattle.book.proofs.Views.{seen}
 
 abbrev new : Book
-new = record { heads = replicate symbols vacant; orders = replicate (symbols * ordersEach) noOrder; trades = replicate (symbols * tradesEach) noTrade }
+new = record { symbols = nobody; orders = noOrders; trades = noTrades }
 
-new-sound : (k : ℕ) → Sound vacant (ordersIn new k) (tradesIn new k)
-unfolding paddedName tabulate
-new-sound k = record {
-  orders = λ n. let z = nothing-counted ordersEach k noOrder (has orderNumber orderLive n) (ordersIn new k) refl (λ i h. part-replicated noOrder ordersEach k (symbols * ordersEach) i) in omega arith;
-  trades = λ n. let z = nothing-counted tradesEach k noTrade (has tradeNumber tradeLive n) (tradesIn new k) refl (λ i h. part-replicated noTrade tradesEach k (symbols * tradesEach) i) in omega arith;
-  no-orders = λ u. nothing-live ordersEach k noOrder orderNumber orderLive (ordersIn new k) refl (λ i h. part-replicated noOrder ordersEach k (symbols * ordersEach) i);
-  no-trades = λ u. nothing-live tradesEach k noTrade tradeNumber tradeLive (tradesIn new k) refl (λ i h. part-replicated noTrade tradesEach k (symbols * tradesEach) i);
-  short = omega arith;
-  zeros = refl;
-}
+nothing-seen : view new ≡ newView
+unfolding view tabulate
+nothing-seen = ap (λ (l : List (Option Entry)). tabulate symbols (λ k. seen (getD l k none) (liveAt noOrders k) (keptAt noTrades k))) nobody-there
 
 pub fresh : Fresh new
-unfolding view tabulate
-fresh = record { heads = refl; orders = refl; trades = refl; wf = record { sound = λ k h. rw (getD-replicate symbols k vacant nobody h) (new-sound k) }; new-view = refl }
+fresh = record {
+  names = refl;
+  orders = refl;
+  trades = refl;
+  wf = record { names = nobody-sound; orders = no-orders-sound; trades = no-trades-sound; no-orders = λ k h n. orders-held.new-has-none k; no-trades = λ k h n. record-held.new-has-none k };
+  new-view = nothing-seen;
+}
+
+pub new-unregistered : (b : Book) → Fresh b → (index : ℕ) → symbolIn index (view b) ≡ none
+unfolding foundIn placeOf firstWhere
+new-unregistered b f index = rw (f .new-view)

@@ -1,34 +1,29 @@
 -- A message puts its own symbol back at its own place with the same index, so every other index is found where it was, with what was there.
-use mathlib.Core.Bool.{Bool, true, false}
 use mathlib.Core.List.{List}
 use mathlib.Core.Option.{Option, none, some}
-use mathlib.Core.Path.{_≡_, refl, sym, ap, _∙_}
-use Prim.Native.Nat.{ℕ, _<_}
-use native.Mathlib.Omega.{arith}
-use borrow.Author.Tests.{eqb-true, ltb-true, ltb-false}
-use lib.Dec.{ltb}
-use lib.ListN.{length, set, List·getD-eq-default, take, drop}
-use lib.Seq.{getD-set-same, getD-set-other}
+use mathlib.Core.Path.{_≡_, refl, ap, _∙_}
+use Prim.Native.Nat.{ℕ}
+use lib.ListN.{take, drop}
 use Rattle.feed.specs.Reader.{Ruling, unchanged, made-stale, applied, Act, clear, numbered, indexOf}
 use Rattle.wire.specs.Outcome.{Outcome, done, refused}
 use Rattle.wire.specs.Reading.{Read, reachOf, readOf}
 use Rattle.wire.specs.declared.Message.{Message}
-use Rattle.places.proofs.Searching.{first-passes, first-set}
-use Rattle.book.specs.State.{Symbol, View, view, hasIndex, placeOf, symbolIn, Wf}
-use Rattle.book.specs.Record.{dealOf}
-use Rattle.book.specs.Step.{enacted, meets, actAt, actOn, meant, stepOn, stepOf}
+use Rattle.symbols.specs.State.{placeOf}
+use Rattle.symbols.proofs.Finding.{put-own, put-others}
+use Rattle.book.specs.State.{Symbol, View, view, entryOf, symbolIn, Wf}
+use Rattle.book.specs.Step.{dealOf, enacted, meets, actAt, actOn, meant, stepOn, stepOf}
 use Rattle.book.specs.Walk.{moveBy, moveOf, Moves}
 use Rattle.book.specs.declared.Book.{Book}
 use Rattle.book.specs.declared.walk.Moved.{Moved}
-use Rattle.book.specs.declared.Order.{Order}
+use Rattle.orders.specs.declared.Order.{Order}
 use Rattle.book.specs.declared.acts.Effect.{Effect}
-use Rattle.book.specs.declared.acts.Deal.{Deal}
+use Rattle.record.specs.declared.Deal.{Deal}
 
 -- ---- what a message never changes of its symbol
 pub record SameName (s t : Symbol) : Type 0 where
-  pub index : t .index ≡ s .index
-  pub name : t .name ≡ s .name
-  pub scale : t .scale ≡ s .scale
+  pub index : t .entry .index ≡ s .entry .index
+  pub name : t .entry .name ≡ s .entry .name
+  pub scale : t .entry .scale ≡ s .entry .scale
 
 enacted-keeps-name : (s : Symbol) (d : Deal) (r : Ruling (List Order)) → SameName s (enacted s d r .symbol)
 unfolding enacted
@@ -41,41 +36,6 @@ unfolding meets
 meets-keeps-name s (clear index next) = record { index = refl; name = refl; scale = refl }
 meets-keeps-name s (numbered index n e) = enacted-keeps-name s (dealOf e) _
 
--- ---- a symbol in a view
-pub place-within : (v : View) (index : ℕ) (s : Symbol) → symbolIn index v ≡ some s → placeOf index v < length v
-unfolding symbolIn
-place-within v index s e = go (ltb (placeOf index v) (length v)) refl
-  where
-    go : (t : Bool) → ltb (placeOf index v) (length v) ≡ t → placeOf index v < length v
-    go true q = ltb-true _ _ q
-    go false q = absurd (let y : _≡_ {A = Option Symbol} none (some s) = sym (List·getD-eq-default v none (ltb-false _ _ q)) ∙ e in let z : _≡_ {A = ℕ} 0 1 = cc in omega arith)
-
-pub index-of : (v : View) (index : ℕ) (s : Symbol) → symbolIn index v ≡ some s → s .index ≡ index
-unfolding symbolIn placeOf
-index-of v index s e = eqb-true (s .index) index (sym (ap (hasIndex index) e) ∙ first-passes (hasIndex index) v none (place-within v index s e))
-
--- a symbol put back with its index
-module _ (v : View) (index : ℕ) (s t : Symbol) (e : symbolIn index v ≡ some s) (same : t .index ≡ s .index) where
-  abbrev after : View
-  after = set v (placeOf index v) (some t)
-
-  places-kept : (i : ℕ) → placeOf i after ≡ placeOf i v
-  unfolding symbolIn placeOf
-  places-kept i = first-set (hasIndex i) v (placeOf index v) (some t) none (place-within v index s e) (rw (e, same))
-
-  put-own : symbolIn index after ≡ some t
-  unfolding symbolIn
-  put-own = rw (places-kept index) (getD-set-same v (placeOf index v) (some t) none (place-within v index s e))
-
-  -- two indices do not share a place
-  apart : (i : ℕ) → (i ≡ index → ⊥) → placeOf i v ≡ placeOf index v → ⊥
-  unfolding symbolIn
-  apart i ne p = ne (sym (index-of v i s (rw p e)) ∙ index-of v index s e)
-
-  put-others : (i : ℕ) → (i ≡ index → ⊥) → symbolIn i after ≡ symbolIn i v
-  unfolding symbolIn
-  put-others i ne = rw (places-kept i) (getD-set-other v (placeOf index v) (placeOf i v) (some t) none (apart i ne))
-
 -- ---- a message
 module _ (v : View) (a : Act Effect) where
   pub unregistered-stays : symbolIn (indexOf a) v ≡ none → actOn v a .view ≡ v
@@ -84,16 +44,16 @@ module _ (v : View) (a : Act Effect) where
 
   pub own-symbol : (s : Symbol) → symbolIn (indexOf a) v ≡ some s → symbolIn (indexOf a) (actOn v a .view) ≡ some (meets s a .symbol)
   unfolding actOn
-  own-symbol s e = rw e (put-own v (indexOf a) s (meets s a .symbol) e (meets-keeps-name s a .index))
+  own-symbol s e = rw e (put-own entryOf v (indexOf a) s (meets s a .symbol) e (meets-keeps-name s a .index))
 
   -- a message for one symbol changes nothing kept for another
   pub own-symbol-only : (i : ℕ) → (i ≡ indexOf a → ⊥) → symbolIn i (actOn v a .view) ≡ symbolIn i v
   unfolding actOn
   own-symbol-only i ne = go (symbolIn (indexOf a) v) refl
     where
-      go : (x : Option Symbol) → symbolIn (indexOf a) v ≡ x → symbolIn i (actAt v (placeOf (indexOf a) v) (symbolIn (indexOf a) v) a .view) ≡ symbolIn i v
+      go : (x : Option Symbol) → symbolIn (indexOf a) v ≡ x → symbolIn i (actAt v (placeOf entryOf (indexOf a) v) (symbolIn (indexOf a) v) a .view) ≡ symbolIn i v
       go none e = rw e
-      go (some s) e = rw e (put-others v (indexOf a) s (meets s a .symbol) e (meets-keeps-name s a .index) i ne)
+      go (some s) e = rw e (put-others entryOf v (indexOf a) s (meets s a .symbol) e (meets-keeps-name s a .index) i ne)
 
 -- ---- what was read: a refusal touches nobody, a message its own symbol
 module _ (v : View) (d : Read) (i : ℕ) (other : (m : Message) → d .outcome ≡ done m → i ≡ indexOf (meant m) → ⊥) where

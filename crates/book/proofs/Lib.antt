@@ -1,11 +1,6 @@
-pub mod Sizes
 pub mod Views
-pub mod Judging
-pub mod Recording
-pub mod Quoting
 pub mod Stores
 pub mod Acting
-pub mod Names
 pub mod Asking
 pub mod Registering
 pub mod Beginning
@@ -18,4 +13,3 @@ pub mod Refusals
 pub mod Answers
 pub mod Positions
 pub mod Reaching
-pub mod Newcomers

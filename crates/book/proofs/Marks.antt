@@ -12,16 +12,16 @@ use Rattle.wire.specs.Outcome.{Outcome, done, refused}
 use Rattle.wire.specs.Reading.{Read, reachOf, readOf}
 use Rattle.wire.specs.declared.Message.{Message}
 use Rattle.book.specs.State.{Symbol, View, view, symbolIn, Wf}
-use Rattle.book.specs.Record.{dealTo, dealOf}
-use Rattle.book.specs.Step.{enacted, meets, actOn, meant, stepOn, stepOf}
+use Rattle.record.specs.Rules.{dealTo}
+use Rattle.book.specs.Step.{dealOf, enacted, meets, actOn, meant, stepOn, stepOf}
 use Rattle.book.specs.Quote.{volumeIn, volumeOf}
 use Rattle.book.specs.Walk.{moveBy, moveOf, walkOf, stepsOf, runOf, Moves, Runs}
 use Rattle.book.specs.declared.Book.{Book}
 use Rattle.book.specs.declared.walk.Moved.{Moved}
 use Rattle.book.specs.declared.walk.Ran.{Ran}
-use Rattle.book.specs.declared.Order.{Order}
+use Rattle.orders.specs.declared.Order.{Order}
 use Rattle.book.specs.declared.acts.Effect.{Effect}
-use Rattle.book.specs.declared.acts.Deal.{Deal}
+use Rattle.record.specs.declared.Deal.{Deal}
 use Rattle.book.proofs.Isolation.{unregistered-stays, own-symbol, own-symbol-only}
 
 still-lost : (b mark : Bool) → mark ≡ false → cond b false mark ≡ false
@@ -32,15 +32,15 @@ kept-or-lost : (b mark : Bool) → mark ≡ false → cond b mark false ≡ fals
 kept-or-lost true mark e = e
 kept-or-lost false mark e = refl
 
-enacted-lost : (s : Symbol) (d : Deal) (r : Ruling (List Order)) → s .whole ≡ false → enacted s d r .symbol .whole ≡ false
+enacted-lost : (s : Symbol) (d : Deal) (r : Ruling (List Order)) → s .entry .standing .whole ≡ false → enacted s d r .symbol .entry .standing .whole ≡ false
 unfolding enacted
 enacted-lost s d (unchanged a) e = e
 enacted-lost s d (made-stale a) e = refl
-enacted-lost s d (applied os) e = still-lost (dealTo (s .trades) d .lost) (s .whole) e
+enacted-lost s d (applied os) e = still-lost (dealTo (s .trades) d .lost) (s .entry .standing .whole) e
 
-pub mark-never-returns : (s : Symbol) (a : Act Effect) → s .whole ≡ false → meets s a .symbol .whole ≡ false
+pub mark-never-returns : (s : Symbol) (a : Act Effect) → s .entry .standing .whole ≡ false → meets s a .symbol .entry .standing .whole ≡ false
 unfolding meets
-mark-never-returns s (clear index next) e = kept-or-lost (eqb next (s .expected)) (s .whole) e
+mark-never-returns s (clear index next) e = kept-or-lost (eqb next (s .entry .standing .expected)) (s .entry .standing .whole) e
 mark-never-returns s (numbered index n effect) e = enacted-lost s (dealOf effect) _ e
 
 -- ---- and so for the rest of the day, whatever messages come

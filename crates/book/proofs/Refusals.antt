@@ -13,14 +13,14 @@ use Rattle.wire.specs.Outcome.{Outcome, done, refused}
 use Rattle.wire.specs.Reading.{Read}
 use Rattle.wire.specs.declared.Message.{Message}
 use Rattle.places.specs.Places.{among}
-use Rattle.book.specs.State.{Symbol, View, placeOf, symbolIn}
-use Rattle.book.specs.Rules.{applyTo}
-use Rattle.book.specs.Record.{dealOf}
-use Rattle.book.specs.Step.{staled, enacted, meets, actAt, actOn, meant, stepOn, stepOf}
+use Rattle.symbols.specs.State.{placeOf, foundIn}
+use Rattle.book.specs.State.{Symbol, View, entryOf, symbolIn}
+use Rattle.orders.specs.Rules.{applyTo}
+use Rattle.book.specs.Step.{changeOf, dealOf, madeStale, enacted, meets, actAt, actOn, meant, stepOn, stepOf}
 use Rattle.book.specs.Promises.{unchanging}
-use Rattle.book.specs.declared.Order.{Order}
+use Rattle.orders.specs.declared.Order.{Order}
 use Rattle.book.specs.declared.acts.Effect.{Effect}
-use Rattle.book.specs.declared.acts.Deal.{Deal}
+use Rattle.record.specs.declared.Deal.{Deal}
 
 never : {A : Type 0} → _≡_ {A = Bool} false true → A
 never e = absurd (let z : _≡_ {A = ℕ} 0 1 = cc in omega arith)
@@ -38,15 +38,15 @@ ruled-unchanged s false false false (fits os) d e = never e
 meets-unchanged : (s : Symbol) (a : Act Effect) → unchanging (meets s a .answer) ≡ true → meets s a .symbol ≡ s
 unfolding meets among
 meets-unchanged s (clear index next) e = never e
-meets-unchanged s (numbered index n f) e = ruled-unchanged s (s .stale) (ltb n (s .expected)) (ltb (s .expected) n) (applyTo (s .orders) f) (dealOf f) e
+meets-unchanged s (numbered index n f) e = ruled-unchanged s (s .entry .standing .stale) (ltb n (s .entry .standing .expected)) (ltb (s .entry .standing .expected) n) (applyTo (s .orders) (changeOf f)) (dealOf f) e
 
 pub act-unchanged : (v : View) (a : Act Effect) → unchanging (actOn v a .answer) ≡ true → actOn v a .view ≡ v
-unfolding actOn symbolIn
+unfolding actOn foundIn
 act-unchanged v a = go (symbolIn (indexOf a) v) refl
   where
-    go : (x : Option Symbol) → symbolIn (indexOf a) v ≡ x → unchanging (actAt v (placeOf (indexOf a) v) x a .answer) ≡ true → actAt v (placeOf (indexOf a) v) x a .view ≡ v
+    go : (x : Option Symbol) → symbolIn (indexOf a) v ≡ x → unchanging (actAt v (placeOf entryOf (indexOf a) v) x a .answer) ≡ true → actAt v (placeOf entryOf (indexOf a) v) x a .view ≡ v
     go none q e = refl
-    go (some s) q e = ap (λ (t : Symbol). set v (placeOf (indexOf a) v) (some t)) (meets-unchanged s a e) ∙ ap (set v (placeOf (indexOf a) v)) (sym q) ∙ set-getD v (placeOf (indexOf a) v) none
+    go (some s) q e = ap (λ (t : Symbol). set v (placeOf entryOf (indexOf a) v) (some t)) (meets-unchanged s a e) ∙ ap (set v (placeOf entryOf (indexOf a) v)) (sym q) ∙ set-getD v (placeOf entryOf (indexOf a) v) none
 
 pub refused-view : (v : View) (d : Read) → unchanging (stepOf v d .answer) ≡ true → stepOf v d .view ≡ v
 unfolding stepOf
@@ -57,10 +57,10 @@ refused-view v d = go (d .outcome)
     go (refused a) e = refl
 
 -- ---- 7, 9 and 10: the symbol becomes stale and its record loses the mark; nothing else changes
-abbrev pub makesStale : ℕ → Bool
-makesStale a = among a (7 ∷ 9 ∷ 10 ∷ [])
+abbrev pub staleAnswer : ℕ → Bool
+staleAnswer a = among a (7 ∷ 9 ∷ 10 ∷ [])
 
-ruled-stale : (s : Symbol) (stale below above : Bool) (x : Fit (List Order)) (d : Deal) → makesStale (enacted s d (ruled stale below above x) .answer) ≡ true → enacted s d (ruled stale below above x) .symbol ≡ staled s
+ruled-stale : (s : Symbol) (stale below above : Bool) (x : Fit (List Order)) (d : Deal) → staleAnswer (enacted s d (ruled stale below above x) .answer) ≡ true → enacted s d (ruled stale below above x) .symbol ≡ madeStale s
 unfolding enacted ruled among
 ruled-stale s true below above x d e = never e
 ruled-stale s false true above x d e = never e
@@ -69,20 +69,20 @@ ruled-stale s false false false misfit d e = refl
 ruled-stale s false false false no-room d e = refl
 ruled-stale s false false false (fits os) d e = never e
 
-meets-stale : (s : Symbol) (a : Act Effect) → makesStale (meets s a .answer) ≡ true → meets s a .symbol ≡ staled s
+meets-stale : (s : Symbol) (a : Act Effect) → staleAnswer (meets s a .answer) ≡ true → meets s a .symbol ≡ madeStale s
 unfolding meets among
 meets-stale s (clear index next) e = never e
-meets-stale s (numbered index n f) e = ruled-stale s (s .stale) (ltb n (s .expected)) (ltb (s .expected) n) (applyTo (s .orders) f) (dealOf f) e
+meets-stale s (numbered index n f) e = ruled-stale s (s .entry .standing .stale) (ltb n (s .entry .standing .expected)) (ltb (s .entry .standing .expected) n) (applyTo (s .orders) (changeOf f)) (dealOf f) e
 
-pub record MadeStale (v : View) (index : ℕ) (w : View) : Type 0 where
+pub record BecomesStale (v : View) (index : ℕ) (w : View) : Type 0 where
   pub symbol : Symbol
   pub there : symbolIn index v ≡ some symbol
-  pub next-view : w ≡ set v (placeOf index v) (some (staled symbol))
+  pub next-view : w ≡ set v (placeOf entryOf index v) (some (madeStale symbol))
 
-pub stale-view : (v : View) (a : Act Effect) → makesStale (actOn v a .answer) ≡ true → MadeStale v (indexOf a) (actOn v a .view)
+pub stale-view : (v : View) (a : Act Effect) → staleAnswer (actOn v a .answer) ≡ true → BecomesStale v (indexOf a) (actOn v a .view)
 unfolding actOn among
 stale-view v a = go (symbolIn (indexOf a) v) refl
   where
-    go : (x : Option Symbol) → symbolIn (indexOf a) v ≡ x → makesStale (actAt v (placeOf (indexOf a) v) x a .answer) ≡ true → MadeStale v (indexOf a) (actAt v (placeOf (indexOf a) v) x a .view)
+    go : (x : Option Symbol) → symbolIn (indexOf a) v ≡ x → staleAnswer (actAt v (placeOf entryOf (indexOf a) v) x a .answer) ≡ true → BecomesStale v (indexOf a) (actAt v (placeOf entryOf (indexOf a) v) x a .view)
     go none q e = never e
-    go (some s) q e = record { symbol = s; there = q; next-view = ap (λ (t : Symbol). set v (placeOf (indexOf a) v) (some t)) (meets-stale s a e) }
+    go (some s) q e = record { symbol = s; there = q; next-view = ap (λ (t : Symbol). set v (placeOf entryOf (indexOf a) v) (some t)) (meets-stale s a e) }

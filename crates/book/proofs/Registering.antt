@@ -1,86 +1,94 @@
--- Registering refuses in document 01's order; a new symbol takes the first empty place, which Wf says holds nothing.
-use mathlib.Core.Bool.{Bool, true, false, cond, true≢false, false≢true}
+-- The symbols take the new one in or refuse it by the rows of the rule; a new symbol takes an empty place, which Wf says holds nothing.
+use mathlib.Core.Bool.{Bool, true, false}
 use mathlib.Core.List.{List}
-use mathlib.Core.Option.{none}
+use mathlib.Core.Option.{Option, none, some}
 use mathlib.Core.Path.{_≡_, refl, sym, ap, _∙_}
-use Prim.Native.Nat.{ℕ, _<_, _≤_}
-use borrow.Author.Tests.{lt-ltb, le-ltb, ltb-false}
-use lib.Dec.{ltb, eqb}
-use lib.ListN.{length, getD}
-use Rattle.places.specs.Places.{firstWhere}
+use Prim.Native.Nat.{ℕ, _<_}
+use native.Mathlib.Omega.{arith}
+use borrow.Author.Tests.{ltb-true}
+use lib.Dec.{ltb}
+use lib.ListN.{getD, set}
+use lib.Seq.{getD-set-same, getD-set-other}
+use Rattle.places.specs.Places.{symbols, among, tabulate}
 use Rattle.places.proofs.Searching.{first-passes}
-use Rattle.book.specs.State.{symbols, nameBytes, paddedName, Symbol, View, headAt, symbolAt, seen, view, isVacant, placeOf, vacancyOf, Wf}
-use Rattle.book.specs.Step.{refusing, put}
-use Rattle.book.specs.Registering.{byteBad, nameBad, newSymbol, registerOf}
-use Rattle.book.specs.Promises.{Obeys}
-use Rattle.book.specs.Changes.{withHead}
-use Rattle.book.specs.declared.Head.{Head}
+use Rattle.symbols.specs.State.{Entry, entries, itself, isVacant, placeOf, vacancyOf}
+use Rattle.symbols.specs.Registering.{bad, newEntry, registeredIf, registered}
+use Rattle.symbols.specs.Promises.{Registers}
+use Rattle.symbols.specs.declared.registering.Entered.{Entered}
+use Rattle.symbols.proofs.Entries.{length-entries}
+use Rattle.symbols.proofs.Finding.{is-none}
+use Rattle.book.specs.State.{entryAt, ordersAt, tradesAt, symbolOf, view, Wf}
+use Rattle.book.specs.Registering.{started, registerOf}
+use Rattle.book.specs.Promises.{unchanging, Obeys, Steps}
 use Rattle.book.specs.declared.Book.{Book}
-use Rattle.book.proofs.Views.{length-view, view-at, obeys-at}
-use Rattle.book.proofs.Stores.{head-set, but-head, not-unused}
-use Rattle.book.proofs.Names.{take-padded}
+use Rattle.book.proofs.Views.{seen, place-is, vacancy-is, obeys-at}
 
--- ---- the rule, by what the code has tested
-module _ (v : View) (index : ℕ) (name : List ℕ) (scale : ℕ) where
-  pub register-scale : 6 < scale → registerOf v index name scale ≡ refusing v 13
-  unfolding registerOf
-  register-scale h = rw (lt-ltb _ _ h)
+-- the state with other symbols
+abbrev pub with : Book → Entered → Book
+with b r = record { symbols = r .symbols; orders = b .orders; trades = b .trades }
 
-  module _ (s : scale ≤ 6) where
-    pub register-name : nameBad name ≡ true → registerOf v index name scale ≡ refusing v 13
-    unfolding registerOf
-    register-name n = rw (le-ltb _ _ s, n)
+module _ (b : Book) (index : ℕ) (name : List ℕ) (scale : ℕ) (r : Entered) (p : Registers (b .symbols) index name scale r) where
+  abbrev es : List (Option Entry)
+  es = entries (b .symbols)
 
-    module _ (n : nameBad name ≡ false) where
-      pub register-twice : placeOf index v < symbols → registerOf v index name scale ≡ refusing v 11
-      unfolding registerOf
-      register-twice h = rw (le-ltb _ _ s, n, lt-ltb _ _ h)
+  abbrev newcomer : Entry
+  newcomer = newEntry index name scale
 
-      module _ (u : symbols ≤ placeOf index v) where
-        pub register-ninth : symbols ≤ vacancyOf v → registerOf v index name scale ≡ refusing v 12
-        unfolding registerOf
-        register-ninth h = rw (le-ltb _ _ s, n, le-ltb _ _ u, le-ltb _ _ h)
+  same-view : entries (r .symbols) ≡ es → view (with b r) ≡ view b
+  unfolding view
+  same-view n = ap (λ (l : List (Option Entry)). tabulate symbols (λ k. seen (getD l k none) (ordersAt b k) (tradesAt b k))) n
 
-        pub register-new : vacancyOf v < symbols → registerOf v index name scale ≡ put v (vacancyOf v) (record { symbol = newSymbol index name scale; answer = 0 })
-        unfolding registerOf
-        register-new h = rw (le-ltb _ _ s, n, le-ltb _ _ u, lt-ltb _ _ h)
+  module _ (w : Wf b) where
+    stays : (a : ℕ) → entries (r .symbols) ≡ es → r .answer ≡ a → Obeys (record { view = view b; answer = a }) (with b r) (r .answer)
+    stays a n e = record {
+      wf = record {
+        names = p .wf (w .names);
+        orders = w .orders;
+        trades = w .trades;
+        no-orders = λ k h z. w .no-orders k h (sym (ap (λ (l : List (Option Entry)). getD l k none) n) ∙ z);
+        no-trades = λ k h z. w .no-trades k h (sym (ap (λ (l : List (Option Entry)). getD l k none) n) ∙ z);
+      };
+      next-view = same-view n;
+      answer = e;
+    }
 
--- a good name is not too long
-pub name-short : (name : List ℕ) → nameBad name ≡ false → length name ≤ nameBytes
-unfolding nameBad
-name-short name = go (eqb (length name) 0) (ltb nameBytes (length name)) refl
-  where
-    go : (t u : Bool) → ltb nameBytes (length name) ≡ u → cond t true (cond u true (ltb (firstWhere byteBad name) (length name))) ≡ false → length name ≤ nameBytes
-    go true u p e = absurd (true≢false e)
-    go false true p e = absurd (true≢false e)
-    go false false p e = ltb-false nameBytes (length name) p
+    module _ (h : vacancyOf es < symbols) where
+      vacant-there : entryAt b (vacancyOf es) ≡ none
+      unfolding vacancyOf
+      vacant-there = is-none _ (first-passes isVacant es none (rw (length-entries (b .symbols)) h))
 
--- ---- the new symbol's head
-abbrev pub newHead : ℕ → List ℕ → ℕ → Head
-newHead index name scale = record { used = true; index = index; name = paddedName name; len = length name; scale = scale; stale = false; expected = 1; whole = true }
+      starts : entries (r .symbols) ≡ set es (vacancyOf es) (some newcomer) → r .answer ≡ 0
+          → Obeys (record { view = set (view b) (vacancyOf es) (some (started newcomer)); answer = 0 }) (with b r) (r .answer)
+      starts n e = rw e (obeys-at b (with b r) (vacancyOf es) h
+          (record {
+            entries = λ m ne. ap (λ (l : List (Option Entry)). getD l m none) n ∙ getD-set-other es (vacancyOf es) m _ none ne;
+            orders = λ m ne. refl;
+            trades = λ m ne. refl;
+          })
+          newcomer (ap (λ (l : List (Option Entry)). getD l (vacancyOf es) none) n ∙ getD-set-same es (vacancyOf es) _ none (rw (length-entries (b .symbols)) h))
+          (record { symbol = started newcomer; answer = 0 }) w
+          (record { names = p .wf (w .names); orders = w .orders; trades = w .trades })
+          (λ i. symbolOf newcomer (w .no-orders (vacancyOf es) h vacant-there i) (w .no-trades (vacancyOf es) h vacant-there i)))
 
-seen-vacant : (u : Bool) (s : Symbol) → isVacant (seen u s) ≡ true → u ≡ false
-seen-vacant false s e = refl
-seen-vacant true s e = absurd (false≢true e)
+    -- the tests of the rule are the same over the entries and over the view
+    by-tests : (t u v : Bool) → ltb (vacancyOf es) symbols ≡ v → entries (r .symbols) ≡ registeredIf t u v es newcomer .view
+        → r .answer ≡ registeredIf t u v es newcomer .answer
+        → Obeys (registeredIf t u v (view b) (started newcomer)) (with b r) (r .answer)
+    by-tests true u v q n a = stays 13 n a
+    by-tests false true v q n a = stays 11 n a
+    by-tests false false false q n a = stays 12 n a
+    by-tests false false true q n a = rw (← (vacancy-is b)) (starts (ltb-true _ _ q) n a)
 
-module _ (b : Book) (index : ℕ) (name : List ℕ) (scale k : ℕ) (is : k ≡ vacancyOf (view b)) (in-range : k < symbols) (eight : length (b .heads) ≡ symbols) (short : length name ≤ nameBytes) (w : Wf b) where
-  vacant-there : headAt b k .used ≡ false
-  unfolding vacancyOf
-  vacant-there =
-      let p : isVacant (getD (view b) k none) ≡ true = (rw is (first-passes isVacant (view b) none (rw (length-view b, ← is) in-range))) in
-      seen-vacant (headAt b k .used) (symbolAt b k) (sym (ap isVacant (view-at b k in-range)) ∙ p)
+    registers : Obeys (registerOf (view b) index name scale) (with b r) (r .answer)
+    unfolding registered
+    registers = rw (← (place-is b index), ← (vacancy-is b)) (by-tests (bad name scale) (ltb (placeOf itself index es) symbols) (ltb (vacancyOf es) symbols) refl (p .next) (p .answer))
 
-  pub registers : Obeys (put (view b) k (record { symbol = newSymbol index name scale; answer = 0 })) (withHead b k (newHead index name scale) 0 .book) 0
-  registers =
-      let s = w .sound k in-range in
-      obeys-at b (withHead b k (newHead index name scale) 0 .book) k in-range (but-head b k in-range eight (newHead index name scale) 0) (record { symbol = newSymbol index name scale; answer = 0 }) w
-      (rw (head-set b k in-range eight (newHead index name scale)) (record {
-        orders = s .orders;
-        trades = s .trades;
-        no-orders = λ u. not-unused true refl u;
-        no-trades = λ u. not-unused true refl u;
-        short = short;
-        zeros = rw (take-padded name short);
-      }))
-      (rw (head-set b k in-range eight (newHead index name scale)))
-      (rw (head-set b k in-range eight (newHead index name scale), take-padded name short, s .no-orders vacant-there, s .no-trades vacant-there))
+  refused : unchanging (r .answer) ≡ true → r .answer ≡ 0 → ⊥
+  unfolding among
+  refused u e = let z : _≡_ {A = Bool} false true = sym (ap unchanging e) ∙ u in let y : _≡_ {A = ℕ} 0 1 = cc in omega arith
+
+  pub registering-steps : Steps b (registerOf (view b) index name scale) (record { book = with b r; answer = r .answer })
+  registering-steps = record {
+    kept = λ u. λ i. record { symbols = p .kept (refused u) i; orders = b .orders; trades = b .trades };
+    obeys = registers;
+  }

@@ -1,137 +1,133 @@
--- A store at place k obeys its rule: nothing else is touched, what lies there stays sound, and the head and the live lists are the rule's.
-use mathlib.Core.Bool.{Bool, true, false}
-use mathlib.Core.List.{List, []}
+-- What came of a message at place k obeys its rule: nothing else is touched, and what is kept and live there is the rule's.
+use mathlib.Core.Bool.{false}
+use mathlib.Core.List.{List}
+use mathlib.Core.Logic.{_≢_}
+use mathlib.Core.Option.{Option, none, some, Option·map}
 use mathlib.Core.Path.{_≡_, refl, sym, ap, _∙_}
-use Prim.Native.Nat.{ℕ, _*_, _<_}
+use Prim.Native.Nat.{ℕ, _<_}
 use native.Mathlib.Omega.{arith}
-use mir.Val.{Val}
-use denote.Laws.{Is}
-use denote.Struct.Declared.{row}
-use lib.ListN.{length, getD, set}
+use borrow.Author.Tests.{lt-ltb}
+use lib.ListN.{getD}
 use lib.Seq.{getD-set-same, getD-set-other}
-use Rattle.feed.specs.Reader.{Fit, fits, ruled}
-use Rattle.places.specs.Places.{among, inOrder, has, Single, Lands}
-use Rattle.places.proofs.Parts.{part-length}
-use Rattle.places.proofs.Emptied.{nothing-live, nothing-counted}
-use Rattle.places.proofs.Landing.{part-placed, part-placed-other}
-use Rattle.book.specs.State.{symbols, ordersEach, tradesEach, noOrder, nobody, orderNumber, orderLive, tradeNumber, tradeLive, headAt, ordersIn, tradesIn, ordersAt, tradesAt, symbolOf, symbolAt, view, Sound, Wf}
-use Rattle.book.specs.Rules.{applyTo}
-use Rattle.book.specs.Record.{dealTo, dealOf}
-use Rattle.book.specs.Step.{Reply, staled, enacted, cleared, put}
-use Rattle.book.specs.Promises.{unchanging, Obeys, Awaits, Settles}
-use Rattle.book.specs.Changes.{OrderPart, TradePart, Decides, lands, misfits, crowds, Deals, withHead, staleHead, countedHead, restartedHead, staleAt, countedAt, restartedAt, withOrder, withTrade, settledAt, Emptied}
-use Rattle.book.specs.declared.Order.{Order}
-use Rattle.book.specs.declared.Trade.{Trade}
-use Rattle.book.specs.declared.Head.{Head}
+use Rattle.feed.specs.Reader.{Fit, fits, misfit, no-room, made-stale, ruled}
+use Rattle.feed.specs.Book.{fitted}
+use Rattle.places.specs.Places.{symbols, among}
+use Rattle.symbols.specs.State.{numbers, Entry, entries}
+use Rattle.symbols.specs.Turns.{standingAt, staled, counted, countedIf, restarted}
+use Rattle.symbols.specs.Promises.{standingBy, altered, Alters}
+use Rattle.symbols.specs.declared.Standing.{Standing}
+use Rattle.symbols.specs.declared.Symbols.{Symbols}
+use Rattle.symbols.proofs.Entries.{length-entries}
+use Rattle.orders.specs.Rules.{applyTo}
+use Rattle.orders.specs.Promises as changing
+use Rattle.orders.specs.Promises.{fitNumber, fitOf}
+use Rattle.orders.specs.declared.Order.{Order}
+use Rattle.orders.specs.declared.Orders.{Orders}
+use Rattle.orders.specs.declared.Change.{Change}
+use Rattle.orders.specs.declared.Changed.{Changed}
+use Rattle.orders.specs.declared.Fit as code
+use Rattle.record.specs.Rules.{dealTo}
+use Rattle.record.specs.Promises as dealing
+use Rattle.record.specs.declared.Deal.{Deal}
+use Rattle.record.specs.declared.Dealt.{Dealt}
+use Rattle.book.specs.State.{entryAt, ordersAt, tradesAt, symbolOf, view, Wf}
+use Rattle.book.specs.Step.{madeStale, enacted, cleared, put}
+use Rattle.book.specs.Promises.{unchanging, Obeys, Awaits, MakesStale, Enacts}
 use Rattle.book.specs.declared.Book.{Book}
-use Rattle.book.specs.declared.rules.Verdict.{Verdict}
-use Rattle.book.specs.declared.acts.Effect.{Effect}
-use Rattle.book.specs.declared.acts.Deal.{Deal}
-use Rattle.book.specs.declared.record.Recording.{Recording}
-use Rattle.book.proofs.Book.{the-type}
-use Rattle.book.proofs.Sizes.{heads-size, orders-size, trades-size}
-use Rattle.book.proofs.Views.{ButAt, obeys-at}
+use Rattle.book.specs.declared.Done.{Done}
+use Rattle.book.proofs.Views.{obeys-at}
 
--- a place that has a symbol is not one that has none
-pub not-unused : {A : Type 0} (u : Bool) → u ≡ true → u ≡ false → A
-not-unused u t f = absurd (let y : _≡_ {A = Bool} true false = sym t ∙ f in let z : _≡_ {A = ℕ} 0 1 = cc in omega arith)
+-- ---- an entry altered: its own, and no other
+module _ (b r : Symbols) (k : ℕ) (f : Standing → Standing) (p : Alters b k f r) where
+  own-entry : k < symbols → (e : Entry) → getD (entries b) k none ≡ some e → getD (entries r) k none ≡ some (standingAt (f (e .standing)) e)
+  unfolding altered
+  own-entry h e at = ap (λ (l : List (Option Entry)). getD l k none) (p .next) ∙ getD-set-same (entries b) k _ none (rw (length-entries b) h) ∙ ap (Option·map (standingBy f)) at
 
-same-symbol : (h j : Head) (os ps : List Order) (ts us : List Trade) → h ≡ j → os ≡ ps → ts ≡ us → symbolOf h os ts ≡ symbolOf j ps us
-same-symbol h j os ps ts us p q r = λ i. symbolOf (p i) (q i) (r i)
+  other-entry : (m : ℕ) → (m ≡ k → ⊥) → getD (entries r) m none ≡ getD (entries b) m none
+  unfolding altered
+  other-entry m ne = ap (λ (l : List (Option Entry)). getD l m none) (p .next) ∙ getD-set-other (entries b) k m _ none ne
 
-module _ (b : Book) (k : ℕ) (in-range : k < symbols) (eight : length (b .heads) ≡ symbols) where
-  pub head-set : (h : Head) → getD (set (b .heads) k h) k nobody ≡ h
-  head-set h = getD-set-same (b .heads) k h nobody (rw eight in-range)
+module _ (b : Book) (k : ℕ) (in-range : k < symbols) (e : Entry) (at : entryAt b k ≡ some e) (w : Wf b) where
+  -- ---- refused, and the symbol stale
+  pub stales : (a : ℕ) (r : Done) → MakesStale b k a r
+      → Obeys (put (view b) k (record { symbol = madeStale (symbolOf e (ordersAt b k) (tradesAt b k)); answer = a })) (r .book) a
+  stales a r p = obeys-at b (r .book) k in-range
+      (record { entries = other-entry _ _ k staled (p .symbols); orders = λ m ne. rw (p .orders); trades = λ m ne. rw (p .trades) })
+      _ (own-entry _ _ k staled (p .symbols) in-range e at)
+      (record { symbol = madeStale (symbolOf e (ordersAt b k) (tradesAt b k)); answer = a }) w
+      (record { names = p .symbols .wf (w .names); orders = rw (p .orders) (w .orders); trades = rw (p .trades) (w .trades) })
+      (rw (p .orders, p .trades))
 
-  pub but-head : (h : Head) (a : ℕ) → ButAt k b (withHead b k h a .book)
-  but-head h a = record { heads = λ m ne. getD-set-other (b .heads) k m h nobody ne; orders = λ m ne. refl; trades = λ m ne. refl }
+  -- ---- applied: these orders and these trades, and the number counted
+  applies : (c : Changed) (os : List Order) → changing.Obeys (b .orders) k (fits os) c → (d : Deal) (t : Dealt) → dealing.Obeys (b .trades) k (dealTo (tradesAt b k) d) t
+      → e .standing .expected < numbers → (s : Symbols) → Alters (b .symbols) k (countedIf (t .lost)) s
+      → Obeys (put (view b) k (enacted (symbolOf e (ordersAt b k) (tradesAt b k)) d (ruled false false false (fits os)))) (record { symbols = s; orders = c .orders; trades = t .trades }) 0
+  unfolding enacted ruled fitted
+  applies c os p d t q n s a =
+      obeys-at b (record { symbols = s; orders = c .orders; trades = t .trades }) k in-range
+      (record { entries = other-entry _ _ k (countedIf (t .lost)) a; orders = p .others; trades = q .others })
+      _ (own-entry _ _ k (countedIf (t .lost)) a in-range e at)
+      (enacted (symbolOf e (ordersAt b k) (tradesAt b k)) d (ruled false false false (fits os))) w
+      (record { names = a .wf (w .names); orders = p .wf; trades = q .wf })
+      (rw (lt-ltb (e .standing .expected) numbers n) (λ i. symbolOf (standingAt (counted (q .lost i) (e .standing)) e) (p .own i) (q .own i)))
 
-  module _ (used : headAt b k .used ≡ true) (w : Wf b) where
-    -- ---- refused, and the symbol stale
-    pub stales : (a : ℕ) → Obeys (put (view b) k (record { symbol = staled (symbolAt b k); answer = a })) (staleAt b k a .book) a
-    stales a = obeys-at b (staleAt b k a .book) k in-range (but-head (staleHead (headAt b k)) a) (record { symbol = staled (symbolAt b k); answer = a }) w
-        (rw (head-set (staleHead (headAt b k))) (let s = w .sound k in-range in
-        record { orders = s .orders; trades = s .trades; no-orders = s .no-orders; no-trades = s .no-trades; short = s .short; zeros = s .zeros }))
-        (rw (head-set (staleHead (headAt b k))) used)
-        (rw (head-set (staleHead (headAt b k))))
+  -- ---- symbol clear
+  pub clears : (next : ℕ) (s : Symbols) → Alters (b .symbols) k (restarted next) s → (os : Orders) → changing.Clears (b .orders) k os
+      → Obeys (put (view b) k (cleared (symbolOf e (ordersAt b k) (tradesAt b k)) next)) (record { symbols = s; orders = os; trades = b .trades }) 0
+  clears next s a os c = obeys-at b (record { symbols = s; orders = os; trades = b .trades }) k in-range
+      (record { entries = other-entry _ _ k (restarted next) a; orders = c .others; trades = λ m ne. refl })
+      _ (own-entry _ _ k (restarted next) a in-range e at)
+      (cleared (symbolOf e (ordersAt b k) (tradesAt b k)) next) w
+      (record { names = a .wf (w .names); orders = c .wf (w .orders); trades = w .trades })
+      (λ i. symbolOf (standingAt (restarted next (e .standing)) e) (c .own in-range i) (tradesAt b k))
 
-    -- ---- one place of the orders and one of the trades changed, and the number counted
-    module _ (i : ℕ) (o : Order) (os : List Order) (p : Lands orderNumber orderLive ordersEach (ordersIn b k) i o os)
-        (j : ℕ) (t : Trade) (ts : List Trade) (q : Lands tradeNumber tradeLive tradesEach (tradesIn b k) j t ts) (lost : Bool) where
-      abbrev r : Book
-      r = countedAt (withTrade (withOrder b k i o) k j t) k lost .book
+-- ---- whether the change fits decides: by the rule its number is the answer
+refused-fit : (x : Fit (List Order)) → fitNumber (fitOf x) ≢ 0 → ruled false false false x ≡ made-stale (fitNumber (fitOf x))
+unfolding ruled
+refused-fit (fits os) ne = absurd (ne refl)
+refused-fit misfit ne = refl
+refused-fit no-room ne = refl
 
-      stored-apart : ButAt k b r
-      stored-apart = record {
-        heads = λ m ne. getD-set-other (b .heads) k m (countedHead (headAt b k) lost) nobody ne;
-        orders = λ m ne. part-placed-other ordersEach k (b .orders) i o m ne;
-        trades = λ m ne. part-placed-other tradesEach k (b .trades) j t m ne;
-      }
-
-      stored-sound : Sound (headAt r k) (ordersIn r k) (tradesIn r k)
-      stored-sound = rw (head-set (countedHead (headAt b k) lost)) (record {
-        orders = rw (part-placed ordersEach k (b .orders) i o) (p .single);
-        trades = rw (part-placed tradesEach k (b .trades) j t) (q .single);
-        no-orders = λ u. not-unused _ used u;
-        no-trades = λ u. not-unused _ used u;
-        short = w .sound k in-range .short;
-        zeros = w .sound k in-range .zeros;
-      })
-
-      pub stores : (x : Reply) → symbolOf (countedHead (headAt b k) lost) os ts ≡ x .symbol → Obeys (put (view b) k x) r (x .answer)
-      stores x e = obeys-at b r k in-range stored-apart x w stored-sound (rw (head-set (countedHead (headAt b k) lost)) used)
-          (same-symbol _ _ _ _ _ _ (head-set (countedHead (headAt b k) lost))
-          (ap (inOrder orderNumber orderLive) (part-placed ordersEach k (b .orders) i o) ∙ p .now)
-          (ap (inOrder tradeNumber tradeLive) (part-placed tradesEach k (b .trades) j t) ∙ q .now) ∙ e)
-
-    -- ---- what was decided is done
-    settles-by : (v : Verdict) (x : Fit (List Order)) (c : Recording) (d : Deal) → Decides (ordersIn b k) v x → Deals (tradesIn b k) d c
-        → Obeys (put (view b) k (enacted (symbolAt b k) d (ruled false false false x))) (settledAt b k v c .book) (settledAt b k v c .answer)
-    unfolding enacted ruled
-    settles-by v x c d misfits g = stales 9
-    settles-by v x c d crowds g = stales 10
-    settles-by v x c d (lands {place = i} {o = o} {os = os} p) g =
-        stores i o os p (c .place) (c .trade) (dealTo (tradesAt b k) d .trades) (g .lands) (c .lost)
-        (enacted (symbolAt b k) d (ruled false false false (fits os)))
-        (ap (λ (lost : Bool). symbolOf (countedHead (headAt b k) lost) os (dealTo (tradesAt b k) d .trades)) (g .lost))
-
-changes-something : (b : Book) (k : ℕ) (v : Verdict) (c : Recording) → unchanging (settledAt b k v c .answer) ≡ false
+changes-something : (f : code.Fit) → unchanging (fitNumber f) ≡ false
 unfolding among
-changes-something b k (Verdict.Fits i o) c = refl
-changes-something b k Verdict.Misfit c = refl
-changes-something b k Verdict.NoRoom c = refl
+changes-something code.Fit.Fits = refl
+changes-something code.Fit.Misfit = refl
+changes-something code.Fit.NoRoom = refl
 
--- ---- so a method that finds, decides and settles keeps its promise. Owning the book tells how long its arrays are
-module _ (b : Book) (vs : List Val) (g : Is (row the-type) b vs) (k : ℕ) (e : Effect) (v : Verdict) (c : Recording) (t : Awaits b k) where
-  order-part : Wf b → OrderPart (ordersIn b k)
-  order-part w = record { long = part-length ordersEach k (b .orders) (omega (arith, t .place, orders-size b vs g)); single = w .sound k (t .place) .orders }
+record Fitted (x : Fit (List Order)) : Type 0 where
+  pub after : List Order
+  pub fit : x ≡ fits after
 
-  trade-part : Wf b → TradePart (tradesIn b k)
-  trade-part w = record { long = part-length tradesEach k (b .trades) (omega (arith, t .place, trades-size b vs g)); single = w .sound k (t .place) .trades }
+fit-fits : (x : Fit (List Order)) → fitNumber (fitOf x) ≡ 0 → Fitted x
+fit-fits (fits os) e = record { after = os; fit = refl }
+fit-fits misfit e = absurd (omega (arith, e))
+fit-fits no-room e = absurd (omega (arith, e))
 
-  pub settles : (OrderPart (ordersIn b k) → Decides (ordersIn b k) v (applyTo (ordersAt b k) e)) → (TradePart (tradesIn b k) → Deals (tradesIn b k) (dealOf e) c) → Settles b k e (settledAt b k v c)
-  settles p q = record {
-    changes = changes-something b k v c;
-    obeys = λ w. settles-by b k (t .place) (heads-size b vs g) (t .used) w v (applyTo (ordersAt b k) e) c (dealOf e) (p (order-part w)) (q (trade-part w));
+-- ---- so the message is applied, or its symbol becomes stale
+module _ (b : Book) (k : ℕ) (c : Change) (d : Deal) (t : Awaits b k) (x : Changed) (p : changing.Changes (b .orders) k c x) where
+  expects : (e : Entry) → entryAt b k ≡ some e → e .standing .expected < numbers
+  expects e at = let same : t .entry ≡ e = (let z : _≡_ {A = Option Entry} (some (t .entry)) (some e) = sym (t .there) ∙ at in cc) in rw (sym same) (t .expected)
+
+  -- the number of the fit is the one that the rule gives
+  by-rule : Wf b → fitNumber (x .fit) ≡ fitNumber (fitOf (applyTo (ordersAt b k) c))
+  by-rule w = ap fitNumber (p .obeys (t .place) (w .orders) .fit)
+
+  pub enacts-refused : (a : ℕ) → a ≡ fitNumber (x .fit) → a ≢ 0 → (r : Done) → MakesStale b k a r → Enacts b k c d r
+  unfolding enacted
+  enacts-refused a is ne r s = record {
+    changes = ap unchanging (s .answer ∙ is) ∙ changes-something (x .fit);
+    obeys = λ e at w.
+        let same : a ≡ fitNumber (fitOf (applyTo (ordersAt b k) c)) = is ∙ by-rule w in
+        rw (s .answer, refused-fit (applyTo (ordersAt b k) c) (λ z. ne (same ∙ z)), ← same) (stales b k (t .place) e at w a r s);
   }
 
--- ---- symbol clear
-module _ (b : Book) (k : ℕ) (in-range : k < symbols) (eight : length (b .heads) ≡ symbols) (used : headAt b k .used ≡ true) (w : Wf b)
-    (m : Book) (len : length (m .orders) ≡ symbols * ordersEach) (p : Emptied b k m) (next : ℕ) where
-  all-empty : (i : ℕ) → i < length (ordersIn m k) → getD (ordersIn m k) i noOrder ≡ noOrder
-  all-empty i h = p .empty i (rw (part-length ordersEach k (m .orders) (omega arith)) at h)
-
-  none-live : ordersAt m k ≡ []
-  none-live = nothing-live ordersEach k noOrder orderNumber orderLive (ordersIn m k) refl all-empty
-
-  still-single : Single orderNumber orderLive (ordersIn m k)
-  still-single n = let z = nothing-counted ordersEach k noOrder (has orderNumber orderLive n) (ordersIn m k) refl all-empty in omega arith
-
-  pub clears : Obeys (put (view b) k (cleared (symbolAt b k) next)) (restartedAt m k next .book) 0
-  clears = rw (p .heads, p .trades) (obeys-at b (record { heads = set (b .heads) k (restartedHead (headAt b k) next); orders = m .orders; trades = b .trades }) k in-range
-      (record { heads = λ j ne. getD-set-other (b .heads) k j (restartedHead (headAt b k) next) nobody ne; orders = p .others; trades = λ j ne. refl })
-      (cleared (symbolAt b k) next) w
-      (rw (head-set b k in-range eight (restartedHead (headAt b k) next)) (let s = w .sound k in-range in
-      record { orders = still-single; trades = s .trades; no-orders = λ u. none-live; no-trades = s .no-trades; short = s .short; zeros = s .zeros }))
-      (rw (head-set b k in-range eight (restartedHead (headAt b k) next)) used)
-      (same-symbol _ _ _ _ _ _ (head-set b k in-range eight (restartedHead (headAt b k) next)) none-live refl))
+  pub enacts-fitting : fitNumber (x .fit) ≡ 0 → (y : Dealt) → dealing.Deals (b .trades) k d y → (s : Symbols) → Alters (b .symbols) k (countedIf (y .lost)) s
+      → Enacts b k c d (record { book = record { symbols = s; orders = x .orders; trades = y .trades }; answer = 0 })
+  unfolding among
+  enacts-fitting f y q s a = record {
+    changes = refl;
+    obeys = λ e at w.
+        let o = p .obeys (t .place) (w .orders) in
+        let g = fit-fits (applyTo (ordersAt b k) c) (sym (by-rule w) ∙ f) in
+        rw (g .fit) (applies b k (t .place) e at w x (g .after) (rw (g .fit) at o) d y (q .obeys (t .place) (w .trades)) (expects e at) s a);
+  }

@@ -1,103 +1,123 @@
--- The view is a table of the eight places, so what stands at a place of it is what the state holds there, and a change at one place is seen at that place alone.
-use mathlib.Core.Bool.{Bool, true, false, cond, false≢true}
-use mathlib.Core.Option.{Option, none, some}
+-- The view is a table of the eight places, so what stands at a place of it is what the rooms hold there, and a change at one place is seen at that place alone.
+use mathlib.Core.Bool.{Bool, true, false, false≢true}
+use mathlib.Core.List.{List, []}
+use mathlib.Core.Option.{Option, none, some, Option·map}
 use mathlib.Core.Path.{_≡_, refl, sym, ap, _∙_}
 use Prim.Native.Nat.{ℕ, _<_, _≤_}
 use borrow.Author.Tests.{eqb-true, eqb-false}
 use lib.Dec.{eqb}
-use lib.ListN.{length, getD, set, List·getD-eq-default}
-use Rattle.places.specs.Places.{firstWhere}
+use lib.ListN.{length, getD, set}
+use Rattle.places.specs.Places.{symbols}
 use Rattle.places.proofs.Tables.{length-tabulate, getD-tabulate, tabulate-but-one, first-alike}
 use Rattle.places.proofs.Searching.{first-passes}
-use Rattle.book.specs.State.{symbols, nobody, Symbol, headAt, ordersIn, tradesIn, symbolAt, seen, view, hasIndex, isVacant, placeOf, symbolIn, vacancyOf, Sound, Wf}
+use Rattle.symbols.specs.State as symbols-room
+use Rattle.symbols.specs.State.{Entry, entries, itself, hasIndex, isVacant, placeOf, foundIn, vacancyOf}
+use Rattle.symbols.proofs.Entries.{length-entries}
+use Rattle.symbols.proofs.Finding.{missing}
+use Rattle.orders.specs.State as orders-room
+use Rattle.orders.specs.declared.Order.{Order}
+use Rattle.record.specs.State as record-room
+use Rattle.record.specs.declared.Trade.{Trade}
+use Rattle.book.specs.State.{Symbol, entryAt, ordersAt, tradesAt, symbolOf, view, entryOf, symbolIn, Wf}
 use Rattle.book.specs.Step.{Reply, put}
 use Rattle.book.specs.Promises.{Obeys}
-use Rattle.book.specs.declared.Head.{Head}
 use Rattle.book.specs.declared.Book.{Book}
+
+-- a symbol where there is an entry
+abbrev pub seen : Option Entry → List Order → List Trade → Option Symbol
+seen x os ts = Option·map (λ e. symbolOf e os ts) x
 
 -- ---- what stands at a place
 pub length-view : (b : Book) → length (view b) ≡ symbols
 unfolding view
 length-view b = length-tabulate symbols _
 
-pub view-at : (b : Book) (k : ℕ) → k < symbols → getD (view b) k none ≡ seen (headAt b k .used) (symbolAt b k)
+pub view-at : (b : Book) (k : ℕ) → k < symbols → getD (view b) k none ≡ seen (entryAt b k) (ordersAt b k) (tradesAt b k)
 unfolding view
 view-at b k h = getD-tabulate symbols _ k none h
 
--- ---- a head as the searches see it
-abbrev pub named : ℕ → Head → Bool
-named index h = cond (h .used) (eqb (h .index) index) false
+-- ---- a symbol is looked for by its entry
+index-seen : (index : ℕ) (x : Option Entry) (os : List Order) (ts : List Trade) → hasIndex itself index x ≡ hasIndex entryOf index (seen x os ts)
+index-seen index none os ts = refl
+index-seen index (some e) os ts = refl
 
-abbrev pub unused : Head → Bool
-unused h = cond (h .used) false true
+vacant-seen : (x : Option Entry) (os : List Order) (ts : List Trade) → isVacant x ≡ isVacant (seen x os ts)
+vacant-seen none os ts = refl
+vacant-seen (some e) os ts = refl
 
-named-seen : (index : ℕ) (u : Bool) (s : Symbol) → hasIndex index (seen u s) ≡ cond u (eqb (s .index) index) false
-named-seen index true s = refl
-named-seen index false s = refl
-
-unused-seen : (u : Bool) (s : Symbol) → isVacant (seen u s) ≡ cond u false true
-unused-seen true s = refl
-unused-seen false s = refl
-
-module _ (b : Book) (eight : length (b .heads) ≡ symbols) where
-  pub place-is : (index : ℕ) → firstWhere (named index) (b .heads) ≡ placeOf index (view b)
+module _ (b : Book) where
+  pub place-is : (index : ℕ) → placeOf itself index (entries (b .symbols)) ≡ placeOf entryOf index (view b)
   unfolding placeOf
-  place-is index = sym (first-alike (hasIndex index) (named index) (view b) (b .heads) none nobody (length-view b ∙ sym eight)
-      (λ k h. ap (hasIndex index) (view-at b k (rw (length-view b) at h)) ∙ named-seen index (headAt b k .used) (symbolAt b k)))
+  place-is index = first-alike (hasIndex itself index) (hasIndex entryOf index) (entries (b .symbols)) (view b) none none (length-entries (b .symbols) ∙ sym (length-view b))
+      (λ k h. index-seen index (entryAt b k) (ordersAt b k) (tradesAt b k) ∙ ap (hasIndex entryOf index) (sym (view-at b k (rw (length-entries (b .symbols)) at h))))
 
-  pub vacancy-is : firstWhere unused (b .heads) ≡ vacancyOf (view b)
+  pub vacancy-is : vacancyOf (entries (b .symbols)) ≡ vacancyOf (view b)
   unfolding vacancyOf
-  vacancy-is = sym (first-alike isVacant unused (view b) (b .heads) none nobody (length-view b ∙ sym eight)
-      (λ k h. ap isVacant (view-at b k (rw (length-view b) at h)) ∙ unused-seen (headAt b k .used) (symbolAt b k)))
+  vacancy-is = first-alike isVacant isVacant (entries (b .symbols)) (view b) none none (length-entries (b .symbols) ∙ sym (length-view b))
+      (λ k h. vacant-seen (entryAt b k) (ordersAt b k) (tradesAt b k) ∙ ap isVacant (sym (view-at b k (rw (length-entries (b .symbols)) at h))))
 
 -- ---- a symbol that is looked for
-pub symbol-missing : (b : Book) (index : ℕ) → symbols ≤ placeOf index (view b) → symbolIn index (view b) ≡ none
-unfolding symbolIn
-symbol-missing b index h = List·getD-eq-default (view b) none (rw (length-view b) h)
+pub symbol-missing : (b : Book) (index : ℕ) → symbols ≤ placeOf entryOf index (view b) → symbolIn index (view b) ≡ none
+symbol-missing b index h = missing entryOf (view b) index (rw (length-view b) h)
 
 -- the symbol with this index stands at place k
-pub record RegisteredAt (b : Book) (index k : ℕ) : Type 0 where
-  pub used : headAt b k .used ≡ true
-  pub there : symbolIn index (view b) ≡ some (symbolAt b k)
+pub record SymbolAt (b : Book) (index k : ℕ) : Type 0 where
+  pub entry : Entry
+  pub at : entryAt b k ≡ some entry
+  pub there : symbolIn index (view b) ≡ some (symbolOf entry (ordersAt b k) (tradesAt b k))
 
-seen-named : (index : ℕ) (u : Bool) (s : Symbol) → hasIndex index (seen u s) ≡ true → u ≡ true
-seen-named index true s e = refl
-seen-named index false s e = absurd (false≢true e)
-
-pub registered-at : (b : Book) (index k : ℕ) → k ≡ placeOf index (view b) → k < symbols → RegisteredAt b index k
-unfolding symbolIn placeOf
-registered-at b index k e h =
-    let p : hasIndex index (getD (view b) k none) ≡ true = (rw e (first-passes (hasIndex index) (view b) none (rw (length-view b, ← e) h))) in
-    let q = seen-named index (headAt b k .used) (symbolAt b k) (sym (ap (hasIndex index) (view-at b k h)) ∙ p) in
-    record {
-      used = q;
-      there = rw (← e) (view-at b k h ∙ ap (λ (u : Bool). seen u (symbolAt b k)) q);
-    }
+pub symbol-at : (b : Book) (index k : ℕ) → k ≡ placeOf entryOf index (view b) → k < symbols → SymbolAt b index k
+unfolding foundIn placeOf
+symbol-at b index k e h =
+    let p : hasIndex entryOf index (getD (view b) k none) ≡ true = (rw e (first-passes (hasIndex entryOf index) (view b) none (rw (length-view b, ← e) h))) in
+    go (entryAt b k) refl (sym (ap (hasIndex entryOf index) (view-at b k h)) ∙ p)
+  where
+    go : (x : Option Entry) → entryAt b k ≡ x → hasIndex entryOf index (seen (entryAt b k) (ordersAt b k) (tradesAt b k)) ≡ true → SymbolAt b index k
+    go none q p = absurd (false≢true (sym (ap (λ (x : Option Entry). hasIndex entryOf index (seen x (ordersAt b k) (tradesAt b k))) q) ∙ p))
+    go (some x) q p = record { entry = x; at = q; there = rw (← e) (view-at b k h ∙ ap (λ (y : Option Entry). seen y (ordersAt b k) (tradesAt b k)) q) }
 
 -- ---- r is b but for place k
 pub record ButAt (k : ℕ) (b r : Book) : Type 0 where
-  pub heads : (m : ℕ) → (m ≡ k → ⊥) → headAt r m ≡ headAt b m
-  pub orders : (m : ℕ) → (m ≡ k → ⊥) → ordersIn r m ≡ ordersIn b m
-  pub trades : (m : ℕ) → (m ≡ k → ⊥) → tradesIn r m ≡ tradesIn b m
+  pub entries : (m : ℕ) → (m ≡ k → ⊥) → entryAt r m ≡ entryAt b m
+  pub orders : (m : ℕ) → (m ≡ k → ⊥) → ordersAt r m ≡ ordersAt b m
+  pub trades : (m : ℕ) → (m ≡ k → ⊥) → tradesAt r m ≡ tradesAt b m
+
+-- and each room of it is sound
+pub record SoundRooms (r : Book) : Type 0 where
+  pub names : symbols-room.Wf (r .symbols)
+  pub orders : orders-room.Wf (r .orders)
+  pub trades : record-room.Wf (r .trades)
 
 module _ (b r : Book) (k : ℕ) (in-range : k < symbols) (apart : ButAt k b r) where
-  view-but-one : view r ≡ set (view b) k (seen (headAt r k .used) (symbolAt r k))
+  view-but-one : view r ≡ set (view b) k (seen (entryAt r k) (ordersAt r k) (tradesAt r k))
   unfolding view
-  view-but-one = tabulate-but-one symbols _ _ k in-range (λ m h ne. rw (apart .heads m ne, apart .orders m ne, apart .trades m ne))
+  view-but-one = tabulate-but-one symbols _ _ k in-range (λ m h ne. rw (apart .entries m ne, apart .orders m ne, apart .trades m ne))
 
-  wf-but-one : Wf b → Sound (headAt r k) (ordersIn r k) (tradesIn r k) → Wf r
-  wf-but-one w s = record { sound = λ m h. go m h (eqb m k) refl }
-    where
-      go : (m : ℕ) → m < symbols → (t : Bool) → eqb m k ≡ t → Sound (headAt r m) (ordersIn r m) (tradesIn r m)
-      go m h true e = rw (eqb-true m k e) s
-      go m h false e =
-          let ne : m ≡ k → ⊥ = eqb-false m k e in
-          rw (apart .heads m ne, apart .orders m ne, apart .trades m ne) (w .sound m h)
+  module _ (e : Entry) (at : entryAt r k ≡ some e) where
+    not-none : {A : Type 0} → entryAt r k ≡ none → A
+    not-none n = absurd (false≢true (ap isVacant (sym at ∙ n)))
 
-  -- so a store at place k that leaves it sound, with the symbol that the rule says, obeys the rule
-  pub obeys-at : (x : Reply) → Wf b → Sound (headAt r k) (ordersIn r k) (tradesIn r k) → headAt r k .used ≡ true → symbolAt r k ≡ x .symbol → Obeys (put (view b) k x) r (x .answer)
-  obeys-at x w s u e = record {
-    wf = wf-but-one w s;
-    next-view = view-but-one ∙ ap (λ (y : Option Symbol). set (view b) k y) (ap (λ (t : Bool). seen t (symbolAt r k)) u ∙ ap some e);
-    answer = refl;
-  }
+    wf-but-one : Wf b → SoundRooms r → Wf r
+    wf-but-one w s = record {
+      names = s .names;
+      orders = s .orders;
+      trades = s .trades;
+      no-orders = λ m h n. orders-empty m h n (eqb m k) refl;
+      no-trades = λ m h n. trades-empty m h n (eqb m k) refl;
+    }
+      where
+        orders-empty : (m : ℕ) → m < symbols → entryAt r m ≡ none → (t : Bool) → eqb m k ≡ t → ordersAt r m ≡ []
+        orders-empty m h n true q = not-none (rw (eqb-true m k q) at n)
+        orders-empty m h n false q = let ne = eqb-false m k q in apart .orders m ne ∙ w .no-orders m h (sym (apart .entries m ne) ∙ n)
+
+        trades-empty : (m : ℕ) → m < symbols → entryAt r m ≡ none → (t : Bool) → eqb m k ≡ t → tradesAt r m ≡ []
+        trades-empty m h n true q = not-none (rw (eqb-true m k q) at n)
+        trades-empty m h n false q = let ne = eqb-false m k q in apart .trades m ne ∙ w .no-trades m h (sym (apart .entries m ne) ∙ n)
+
+    -- so a store at place k, with the symbol that the rule says, obeys the rule
+    pub obeys-at : (x : Reply) → Wf b → SoundRooms r → symbolOf e (ordersAt r k) (tradesAt r k) ≡ x .symbol → Obeys (put (view b) k x) r (x .answer)
+    obeys-at x w s q = record {
+      wf = wf-but-one w s;
+      next-view = view-but-one ∙ ap (λ (y : Option Symbol). set (view b) k y) (ap (λ (y : Option Entry). seen y (ordersAt r k) (tradesAt r k)) at ∙ ap some q);
+      answer = refl;
+    }

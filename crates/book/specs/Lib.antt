@@ -1,10 +1,7 @@
 pub mod State
-pub mod Rules
-pub mod Record
 pub mod Registering
 pub mod Quote
 pub mod Step
 pub mod Walk
 pub mod Promises
 pub mod Reached
-pub mod Changes

@@ -1,14 +1,20 @@
 -- What a call that changes the state promises.
 use mathlib.Core.Bool.{Bool, true, false}
 use mathlib.Core.List.{[], _∷_}
+use mathlib.Core.Option.{some}
 use mathlib.Core.Path.{_≡_}
 use Prim.Native.Nat.{ℕ, _<_}
 use Rattle.feed.specs.Reader.{ruled}
-use Rattle.places.specs.Places.{among}
-use Rattle.book.specs.State.{symbols, numbers, headAt, symbolAt, ordersAt, view, Wf}
-use Rattle.book.specs.Rules.{applyTo}
-use Rattle.book.specs.Record.{dealOf}
-use Rattle.book.specs.Step.{enacted, Next, put}
+use Rattle.places.specs.Places.{symbols, among}
+use Rattle.symbols.specs.State.{numbers, Entry}
+use Rattle.symbols.specs.Registering.{Next}
+use Rattle.symbols.specs.Turns.{staled}
+use Rattle.symbols.specs.Promises.{Alters}
+use Rattle.orders.specs.Rules.{applyTo}
+use Rattle.orders.specs.declared.Change.{Change}
+use Rattle.record.specs.declared.Deal.{Deal}
+use Rattle.book.specs.State.{Symbol, entryAt, ordersAt, tradesAt, symbolOf, view, Wf}
+use Rattle.book.specs.Step.{changeOf, dealOf, enacted, put}
 use Rattle.book.specs.declared.Book.{Book}
 use Rattle.book.specs.declared.Done.{Done}
 use Rattle.book.specs.declared.acts.Effect.{Effect}
@@ -18,23 +24,36 @@ abbrev pub unchanging : ℕ → Bool
 unchanging a = among a (1 ∷ 2 ∷ 3 ∷ 4 ∷ 5 ∷ 6 ∷ 8 ∷ 11 ∷ 12 ∷ 13 ∷ [])
 
 -- the next state is sound, its view is the rule's, and so is the answer
-pub record Obeys (x : Next) (b : Book) (a : ℕ) : Type 0 where
+pub record Obeys (x : Next Symbol) (b : Book) (a : ℕ) : Type 0 where
   pub wf : Wf b
   pub next-view : view b ≡ x .view
   pub answer : a ≡ x .answer
 
 -- with an answer that changes nothing the state is the one handed in, whatever it was
-pub record Steps (b : Book) (x : Next) (r : Done) : Type 0 where
+pub record Steps (b : Book) (x : Next Symbol) (r : Done) : Type 0 where
   pub kept : unchanging (r .answer) ≡ true → r .book ≡ b
   pub obeys : Wf b → Obeys x (r .book) (r .answer)
 
--- ---- for the methods: place k has a symbol, and its expected number is one that a message can carry
+-- ---- for the methods: place k has a symbol, whose expected number is one that a message can carry
 pub record Awaits (b : Book) (k : ℕ) : Type 0 where
   pub place : k < symbols
-  pub used : headAt b k .used ≡ true
-  pub expected : headAt b k .expected < numbers
+  pub entry : Entry
+  pub there : entryAt b k ≡ some entry
+  pub expected : entry .standing .expected < numbers
 
--- a message in its turn is applied, or its symbol becomes stale: something changes, at place k alone
-pub record Settles (b : Book) (k : ℕ) (e : Effect) (r : Done) : Type 0 where
+-- the symbol at place k becomes stale, and its record loses the mark
+pub record MakesStale (b : Book) (k a : ℕ) (r : Done) : Type 0 where
+  pub symbols : Alters (b .symbols) k staled (r .book .symbols)
+  pub orders : r .book .orders ≡ b .orders
+  pub trades : r .book .trades ≡ b .trades
+  pub answer : r .answer ≡ a
+
+-- a change of the orders and a deal with the record: both are done, or the symbol becomes stale. Something changes, at place k alone
+pub record Enacts (b : Book) (k : ℕ) (c : Change) (d : Deal) (r : Done) : Type 0 where
   pub changes : unchanging (r .answer) ≡ false
-  pub obeys : Wf b → Obeys (put (view b) k (enacted (symbolAt b k) (dealOf e) (ruled false false false (applyTo (ordersAt b k) e)))) (r .book) (r .answer)
+  pub obeys : (e : Entry) → entryAt b k ≡ some e → Wf b
+      → Obeys (put (view b) k (enacted (symbolOf e (ordersAt b k) (tradesAt b k)) d (ruled false false false (applyTo (ordersAt b k) c)))) (r .book) (r .answer)
+
+-- so with a message in its turn
+abbrev pub Settles : Book → ℕ → Effect → Done → Type 0
+Settles b k e r = Enacts b k (changeOf e) (dealOf e) r

@@ -11,7 +11,7 @@ use Rattle.book.specs.declared.Book.{Book}
 use Rattle.book.specs.declared.Done.{Done}
 use Rattle.book.specs.declared.walk.Moved.{Moved}
 use Rattle.book.specs.declared.walk.Ran.{Ran}
-use Rattle.book.specs.declared.symbols.Registered.{Registered}
+use Rattle.symbols.specs.declared.registering.Listing.{Listing}
 use Rattle.book.specs.declared.quote.Quote.{Quote}
 use Rattle.book.specs.declared.quote.Volume.{Volume}
 
@@ -29,6 +29,6 @@ pub record Alike (a b : Book) : Type 0 where
       → (q .answer ≡ r .answer) × (q .at ≡ r .at) × (q .stops ≡ r .stops) × (view (q .book) ≡ view (r .book))
   pub running : (s : List ℕ) (at : ℕ) (q r : Ran) → Runs a s at q → Runs b s at r
       → (q .answer ≡ r .answer) × (q .at ≡ r .at) × (view (q .book) ≡ view (r .book))
-  pub telling : (index : ℕ) (q r : Registered) → Told a index q → Told b index r → q ≡ r
+  pub telling : (index : ℕ) (q r : Listing) → Told a index q → Told b index r → q ≡ r
   pub quoting : (index : ℕ) (q r : Quote) → q ≡ quoteOf index (view a) → r ≡ quoteOf index (view b) → q ≡ r
   pub summing : (index : ℕ) (q r : Volume) → q ≡ volumeOf index (view a) → r ≡ volumeOf index (view b) → q ≡ r

@@ -1,8 +1,8 @@
 -- A message meets its symbol: document 01, "Numbers answered" and "The book"; what each of the 13 typed messages means, and the step over what reading answered.
-use mathlib.Core.Bool.{Bool, true, false, cond}
+use mathlib.Core.Bool.{Bool, cond}
 use mathlib.Core.List.{List, []}
 use mathlib.Core.Option.{Option, none, some}
-use Prim.Native.Nat.{ℕ, _+_}
+use Prim.Native.Nat.{ℕ}
 use lib.Dec.{ltb, eqb}
 use lib.ListN.{set}
 use Rattle.feed.specs.Reader.{Ruling, unchanged, made-stale, applied, ruled, Act, clear, numbered, indexOf}
@@ -10,12 +10,18 @@ use Rattle.wire.specs.Outcome.{Outcome, done, refused}
 use Rattle.wire.specs.Fields.{buyLetter}
 use Rattle.wire.specs.Reading.{Read}
 use Rattle.wire.specs.declared.Message.{Message}
-use Rattle.book.specs.State.{Symbol, View, placeOf, symbolIn}
-use Rattle.book.specs.Rules.{applyTo}
-use Rattle.book.specs.Record.{Dealt, dealTo, dealOf, ifPrintable}
-use Rattle.book.specs.declared.Order.{Order}
+use Rattle.symbols.specs.State.{placeOf}
+use Rattle.symbols.specs.Registering.{Next}
+use Rattle.symbols.specs.Turns.{standingAt, staled, counted, restarted}
+use Rattle.symbols.specs.declared.Standing.{Standing}
+use Rattle.orders.specs.Rules.{applyTo}
+use Rattle.orders.specs.declared.Order.{Order}
+use Rattle.orders.specs.declared.Change.{Change}
+use Rattle.record.specs.Rules.{dealTo}
+use Rattle.record.specs.declared.Deal.{Deal}
+use Rattle.record.specs.declared.Trade.{Trade}
+use Rattle.book.specs.State.{Symbol, View, symbolOf, entryOf, symbolIn}
 use Rattle.book.specs.declared.acts.Effect.{Effect}
-use Rattle.book.specs.declared.acts.Deal.{Deal}
 use Rattle.book.specs.declared.acts as code
 
 -- ---- one symbol: what is kept after a message, and the answer
@@ -23,50 +29,65 @@ pub record Reply : Type 0 where
   pub symbol : Symbol
   pub answer : ℕ
 
--- stale, and its record without the mark
-abbrev pub staled : Symbol → Symbol
-staled s = record { index = s .index; name = s .name; scale = s .scale; expected = s .expected; stale = true; whole = false; orders = s .orders; trades = s .trades }
+-- the same symbol where it then stands, with these orders and trades
+abbrev pub becomes : Symbol → Standing → List Order → List Trade → Symbol
+becomes s t os ts = symbolOf (standingAt t (s .entry)) os ts
 
--- a number on, with these orders and what was dealt
-abbrev pub advanced : Symbol → List Order → Dealt → Symbol
-advanced s os d = record { index = s .index; name = s .name; scale = s .scale; expected = s .expected + 1; stale = s .stale; whole = cond (d .lost) false (s .whole); orders = os; trades = d .trades }
+-- stale, with the orders and trades that it had
+abbrev pub madeStale : Symbol → Symbol
+madeStale s = becomes s (staled (s .entry .standing)) (s .orders) (s .trades)
 
 -- a ruling carried out; `ruled` has the rows of "Numbers answered"
 unfoldable pub enacted : Symbol → Deal → Ruling (List Order) → Reply
 enacted s d (unchanged a) = record { symbol = s; answer = a }
-enacted s d (made-stale a) = record { symbol = staled s; answer = a }
-enacted s d (applied os) = record { symbol = advanced s os (dealTo (s .trades) d); answer = 0 }
+enacted s d (made-stale a) = record { symbol = madeStale s; answer = a }
+enacted s d (applied os) = record { symbol = becomes s (counted (dealTo (s .trades) d .lost) (s .entry .standing)) os (dealTo (s .trades) d .trades); answer = 0 }
 
--- a clear: no orders, not stale, and the number given is the one in turn. The mark goes where that is another than was expected
+-- a clear: no orders, and a new start of the numbers
 abbrev pub cleared : Symbol → ℕ → Reply
-cleared s next = record { symbol = record { index = s .index; name = s .name; scale = s .scale; expected = next; stale = false; whole = cond (eqb next (s .expected)) (s .whole) false; orders = []; trades = s .trades }; answer = 0 }
+cleared s next = record { symbol = becomes s (restarted next (s .entry .standing)) [] (s .trades); answer = 0 }
+
+-- each effect taken apart: what it does to the orders, and what it brings to the record
+abbrev pub apart : Effect → Change × Deal
+apart (Effect.Add n buy p v) = (Change.Add n buy p v, Deal.Nothing)
+apart (Effect.Modify n buy p v) = (Change.Modify n buy p v, Deal.Nothing)
+apart (Effect.Delete n) = (Change.Delete n, Deal.Nothing)
+apart (Effect.Execute n v deal) = (Change.Execute n v, deal)
+apart (Effect.Replace old n buy p v) = (Change.Replace old n buy p v, Deal.Nothing)
+apart (Effect.Other deal) = (Change.Nothing, deal)
+
+abbrev pub changeOf : Effect → Change
+changeOf e = apart e .0
+
+abbrev pub dealOf : Effect → Deal
+dealOf e = apart e .1
 
 unfoldable pub meets : Symbol → Act Effect → Reply
 meets s (clear index next) = cleared s next
-meets s (numbered index n e) = enacted s (dealOf e) (ruled (s .stale) (ltb n (s .expected)) (ltb (s .expected) n) (applyTo (s .orders) e))
+meets s (numbered index n e) = enacted s (dealOf e) (ruled (s .entry .standing .stale) (ltb n (s .entry .standing .expected)) (ltb (s .entry .standing .expected) n) (applyTo (s .orders) (changeOf e)))
 
 -- ---- the eight symbols: the next view, and the answer
-pub record Next : Type 0 where
-  pub view : View
-  pub answer : ℕ
-
-abbrev pub refusing : View → ℕ → Next
+abbrev pub refusing : View → ℕ → Next Symbol
 refusing v a = record { view = v; answer = a }
 
-abbrev pub put : View → ℕ → Reply → Next
+abbrev pub put : View → ℕ → Reply → Next Symbol
 put v k r = record { view = set v k (some (r .symbol)); answer = r .answer }
 
 -- a symbol that is not registered answers 5; another one's place stays as it was
-abbrev pub actAt : View → ℕ → Option Symbol → Act Effect → Next
+abbrev pub actAt : View → ℕ → Option Symbol → Act Effect → Next Symbol
 actAt v k none a = refusing v 5
 actAt v k (some s) a = put v k (meets s a)
 
-unfoldable pub actOn : View → Act Effect → Next
-actOn v a = actAt v (placeOf (indexOf a) v) (symbolIn (indexOf a) v) a
+unfoldable pub actOn : View → Act Effect → Next Symbol
+actOn v a = actAt v (placeOf entryOf (indexOf a) v) (symbolIn (indexOf a) v) a
 
 -- ---- what each message means
 abbrev pub buys : ℕ → Bool
 buys side = eqb side buyLetter
+
+-- a trade is recorded with printable 1
+abbrev pub ifPrintable : ℕ → ℕ → ℕ → ℕ → Deal
+ifPrintable printable n p v = cond (eqb printable 1) (Deal.Records n p v) Deal.Nothing
 
 unfoldable pub meant : Message → Act Effect
 meant (Message.Add h n p v side) = numbered (h .index) (h .number) (Effect.Add n (buys side) p v)
@@ -89,9 +110,9 @@ actedAs (code.Act.Act.Clear index next) = clear index next
 actedAs (code.Act.Act.Numbered index n e) = numbered index n e
 
 -- ---- the step: answers 1 to 4 leave all as it was
-abbrev pub stepOn : View → Outcome Message → Next
+abbrev pub stepOn : View → Outcome Message → Next Symbol
 stepOn v (done m) = actOn v (meant m)
 stepOn v (refused a) = refusing v a
 
-unfoldable pub stepOf : View → Read → Next
+unfoldable pub stepOf : View → Read → Next Symbol
 stepOf v d = stepOn v (d .outcome)

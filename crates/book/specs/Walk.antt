@@ -6,8 +6,9 @@ use mathlib.Core.Path.{_≡_}
 use lib.ListN.{length, take, drop}
 use Rattle.wire.specs.Outcome.{Outcome, done, refused, numberOf}
 use Rattle.wire.specs.Reading.{reachOf, readOf}
-use Rattle.book.specs.State.{View, view, Wf}
-use Rattle.book.specs.Step.{Next, refusing, stepOf}
+use Rattle.symbols.specs.Registering.{Next}
+use Rattle.book.specs.State.{Symbol, View, view, Wf}
+use Rattle.book.specs.Step.{refusing, stepOf}
 use Rattle.book.specs.Promises.{unchanging, Obeys}
 use Rattle.book.specs.declared.Book.{Book}
 use Rattle.book.specs.declared.walk.Moved.{Moved}
@@ -22,11 +23,11 @@ abbrev pub stopping : Outcome ℕ → Bool
 stopping (refused a) = true
 stopping (done n) = false
 
-abbrev pub moveBy : Outcome ℕ → View → List ℕ → ℕ → Next
+abbrev pub moveBy : Outcome ℕ → View → List ℕ → ℕ → Next Symbol
 moveBy (refused a) v s at = refusing v a
 moveBy (done n) v s at = stepOf v (readOf (take n (drop at s)))
 
-unfoldable pub moveOf : View → List ℕ → ℕ → Next
+unfoldable pub moveOf : View → List ℕ → ℕ → Next Symbol
 moveOf v s at = moveBy (reachOf (drop at s)) v s at
 
 -- ---- all of it: the messages that stand end to end from a position, where they end, and the answer there
@@ -53,7 +54,7 @@ unfoldable pub stepsOf : View → List (List ℕ) → View
 stepsOf v [] = v
 stepsOf v (m ∷ ms) = stepsOf (stepOf v (readOf m) .view) ms
 
-unfoldable pub runOf : View → List ℕ → ℕ → Next
+unfoldable pub runOf : View → List ℕ → ℕ → Next Symbol
 runOf v s at = record { view = stepsOf v (walkOf s at .messages); answer = walkOf s at .answer }
 
 -- ---- what the calls promise. Position and stop are promised of any state

@@ -1,18 +1,14 @@
 // The step over what reading answered.
 use crate::Book;
 use crate::Done;
-use crate::SYMBOLS;
 use crate::acts::Act;
 use crate::acts::Effect;
 use crate::acts::act_of;
 use wire::Answer;
 use wire::Decoded;
-ghost use mathlib.Core.Path.{_≡_};
-ghost use lib.Dec.{ltb};
 ghost use Rattle.feed.specs.Reader.{numbered};
 ghost use Rattle.wire.specs.Reading.{decodedAs};
 ghost use Rattle.book.specs.State.{view};
-ghost use Rattle.book.specs.Changes.{turnAnswer};
 ghost use Rattle.book.specs.Promises.{Steps, Awaits, Settles};
 ghost use Rattle.book.specs.Step.{actOn, stepOf};
 
@@ -38,15 +34,9 @@ impl Book {
     fn meet(self, index: u32, number: u32, effect: Effect) -> Done
         ensures { λ r. ⌜ Steps self (actOn (view self) (numbered index number effect)) r ⌝ }
     {
-        let k = self.place_of(index);
-        if SYMBOLS <= k {
-            return Done {
-                book: self,
-                answer: 5,
-            };
-        }
-        let h = self.heads[k];
-        let t = turn(h.stale, h.expected, number);
+        let symbols = self.symbols;
+        let k = symbols.place_of(index);
+        let t = symbols.turn_at(k, number);
         if t == 7 {
             return self.make_stale(k, 7);
         }
@@ -79,21 +69,4 @@ impl Book {
             Effect::Other(deal) => self.other(k, deal),
         }
     }
-}
-
-// Whether a number is in its turn: 0, or the answer that refuses it. Stale is tested before the number.
-fn turn(stale: bool, expected: u64, number: u32) -> u8
-    ensures { λ r. ⌜ r ≡ turnAnswer stale (ltb number expected) (ltb expected number) ⌝ }
-{
-    let n = number as u64;
-    if stale {
-        return 8;
-    }
-    if n < expected {
-        return 6;
-    }
-    if expected < n {
-        return 7;
-    }
-    0
 }

@@ -6,17 +6,20 @@ use Rattle.wire.specs.Table.{shapeOf}
 use Rattle.wire.specs.Fields.{faultBy, faultOf}
 use Rattle.wire.specs.Reading.{reachBy, reachOf, readBy, readBody, readSized, readShape, readTyped, readReached, readOf}
 use Rattle.places.specs.Places.{firstWhere, fold, sumBy, insert, remove, look, tabulate}
-use Rattle.book.specs.State.{View, paddedName, placeOf, symbolIn, vacancyOf}
-use Rattle.book.specs.Rules.{applyTo}
-use Rattle.book.specs.Record.{dealTo}
-use Rattle.book.specs.Registering.{nameBad, registerOf, toldOf}
+use Rattle.symbols.specs.State.{placeOf, foundIn, vacancyOf, paddedName}
+use Rattle.symbols.specs.Registering.{nameBad, registered, toldOf}
+use Rattle.symbols.specs.declared.registering.Listing.{Listing}
+use Rattle.orders.specs.Rules.{applyTo}
+use Rattle.record.specs.Rules.{dealTo}
+use Rattle.book.specs.State.{View}
+use Rattle.book.specs.Registering.{toldIn}
 use Rattle.book.specs.declared.Book.{Book}
-use Rattle.book.specs.declared.symbols.Registered.{Registered}
 use Rattle.page.specs.Printing.{lineOf, told}
 use Rattle.page.specs.Marked as marked
 use Rattle.page.proofs.Marked.{case-l}
 use Rattle.demands.specs.Examples.{HasABC}
-use Rattle.book.specs.Quote.{bestStep, sharesAt, levelOf, quoteOf}
+use Rattle.orders.specs.Levels.{bestStep, sharesAt, levelOf}
+use Rattle.book.specs.Quote.{quoteOf}
 use Rattle.feed.specs.Reader.{ruled}
 use Rattle.book.specs.Step.{enacted, meets, actOn, meant, stepOf}
 use Rattle.book.specs.Walk.{moveOf, stepsOf}
@@ -43,20 +46,20 @@ all-by-calls [] h = tt
 all-by-calls (r ∷ rs) h = (by-calls r (h .0), all-by-calls rs (h .1))
 
 by-rule : AllRows ByRule rows
-unfolding value littleEndian shapeOf faultBy faultOf reachBy reachOf readBy readBody readSized readShape readTyped readReached readOf firstWhere fold sumBy insert remove look placeOf symbolIn vacancyOf applyTo dealTo nameBad registerOf bestStep sharesAt levelOf quoteOf ruled enacted meets actOn meant stepOf moveOf stepsOf
+unfolding value littleEndian shapeOf faultBy faultOf reachBy reachOf readBy readBody readSized readShape readTyped readReached readOf firstWhere fold sumBy insert remove look placeOf foundIn vacancyOf applyTo dealTo nameBad registered bestStep sharesAt levelOf quoteOf ruled enacted meets actOn meant stepOf moveOf stepsOf
 by-rule = (refl, (refl, (refl, (refl, (refl, (refl, (refl, (refl, (refl, (refl, (refl, (refl, (refl, tt)))))))))))))
 
 -- what is told of ABC is what the marked case has
 abc-told : {b : Book} → HasABC b → told b marked.add ≡ marked.abc
-unfolding firstWhere placeOf symbolIn vacancyOf nameBad registerOf toldOf paddedName tabulate
-abc-told p = ap (λ (v : View). toldOf (symbolIn 7 v)) (has-view p) ∙ refl
+unfolding firstWhere placeOf foundIn vacancyOf nameBad registered toldOf toldIn paddedName tabulate
+abc-told p = ap (toldIn 7) (has-view p) ∙ refl
 
 line-l : LineL
 unfolding value littleEndian shapeOf faultBy faultOf reachBy reachOf readBy readBody readSized readShape readTyped readReached readOf
 line-l = record {
   reads = refl;
   by-calls = λ p out after h promise room.
-      promise (began-wf (has-began h)) ∙ ap (λ (s : Registered). lineOf s marked.add marked.firm marked.sequenceL marked.secondL out) (abc-told h) ∙ case-l out room;
+      promise (began-wf (has-began h)) ∙ ap (λ (s : Listing). lineOf s marked.add marked.firm marked.sequenceL marked.secondL out) (abc-told h) ∙ case-l out room;
 }
 
 -- THE DAY

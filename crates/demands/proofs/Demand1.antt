@@ -14,16 +14,18 @@ use Rattle.wire.specs.Reading.{msgType, reachOf, readOf}
 use Rattle.wire.specs.declared.Message.{Message}
 use Rattle.feed.specs.Reader.{Fit, fits, misfit, no-room, ruled, Act, clear, numbered, indexOf}
 use Rattle.places.specs.Places.{among}
-use Rattle.book.specs.State.{Symbol, View, view, placeOf, symbolIn}
-use Rattle.book.specs.Rules.{applyTo}
-use Rattle.book.specs.Record.{dealOf}
+use Rattle.symbols.specs.State.{placeOf}
+use Rattle.symbols.specs.Registering.{Next}
+use Rattle.book.specs.State.{Symbol, View, view, entryOf, symbolIn}
+use Rattle.book.specs.Step.{changeOf, dealOf, enacted, meets, actAt, actOn, meant, stepOn, stepOf}
+use Rattle.orders.specs.Rules.{applyTo}
+use Rattle.symbols.proofs.Finding.{register-answers}
+use Rattle.book.specs.Registering.{started}
 use Rattle.book.specs.Promises.{unchanging}
-use Rattle.book.specs.Registering.{toldOf}
-use Rattle.book.specs.Step.{Next, enacted, meets, actAt, actOn, meant, stepOn, stepOf}
 use Rattle.book.specs.Walk.{moveBy, moveOf, walkOf}
 use Rattle.book.specs.Reached.{Reached}
 use Rattle.book.specs.declared.Book.{Book}
-use Rattle.book.proofs.Answers.{register-answers, quote-answers, volume-answers}
+use Rattle.book.proofs.Answers.{quote-answers, volume-answers, told-answers}
 use Rattle.book.proofs.Isolation.{unregistered-stays, own-symbol, own-symbol-only}
 use Rattle.book.proofs.Positions.{stops-there}
 use Rattle.book.proofs.Reaching.{reached-wf}
@@ -48,10 +50,10 @@ ruled-keeps-orders s false false false (fits os) d = record { bound = omega arit
 meets-keeps-orders : (s : Symbol) (a : Act Effect) → OrdersKept (meets s a .answer) (s .orders) (meets s a .symbol .orders)
 unfolding meets
 meets-keeps-orders s (clear index next) = record { bound = omega arith; unless-done = λ n. absurd (n refl) }
-meets-keeps-orders s (numbered index n e) = ruled-keeps-orders s (s .stale) (ltb n (s .expected)) (ltb (s .expected) n) (applyTo (s .orders) e) (dealOf e)
+meets-keeps-orders s (numbered index n e) = ruled-keeps-orders s (s .entry .standing .stale) (ltb n (s .entry .standing .expected)) (ltb (s .entry .standing .expected) n) (applyTo (s .orders) (changeOf e)) (dealOf e)
 
 -- ---- the next view and the answer, of all symbols
-record AllOrdersKept (v : View) (x : Next) : Type 0 where
+record AllOrdersKept (v : View) (x : Next Symbol) : Type 0 where
   pub bound : x .answer ≤ 10
   pub unless-done : x .answer ≢ 0 → (i : ℕ) → liveOf (symbolIn i (x .view)) ≡ liveOf (symbolIn i v)
 
@@ -63,11 +65,11 @@ module _ (v : View) (a : Act Effect) where
   unfolding actOn
   act-bound = go (symbolIn (indexOf a) v)
     where
-      go : (x : Option Symbol) → actAt v (placeOf (indexOf a) v) x a .answer ≤ 10
+      go : (x : Option Symbol) → actAt v (placeOf entryOf (indexOf a) v) x a .answer ≤ 10
       go none = omega arith
       go (some s) = meets-keeps-orders s a .bound
 
-  own-same : (x : Option Symbol) → symbolIn (indexOf a) v ≡ x → actAt v (placeOf (indexOf a) v) x a .answer ≢ 0 → liveOf (symbolIn (indexOf a) (actOn v a .view)) ≡ liveOf (symbolIn (indexOf a) v)
+  own-same : (x : Option Symbol) → symbolIn (indexOf a) v ≡ x → actAt v (placeOf entryOf (indexOf a) v) x a .answer ≢ 0 → liveOf (symbolIn (indexOf a) (actOn v a .view)) ≡ liveOf (symbolIn (indexOf a) v)
   own-same none e n = ap (λ (w : View). liveOf (symbolIn (indexOf a) w)) (unregistered-stays v a e)
   own-same (some s) e n = ap liveOf (own-symbol v a s e) ∙ meets-keeps-orders s a .unless-done n ∙ sym (ap liveOf e)
 
@@ -108,20 +110,15 @@ refused-registering a h n = go (eqb a 0) (eqb a 11) (eqb a 12) (eqb a 13) refl r
     go false false false true p q r t e = rw (eqb-true a 13 t)
     go false false false false p q r t e = absurd (false≢true e)
 
-told-answers : (x : Option Symbol) → among (toldOf x .answer) (0 ∷ 5 ∷ []) ≡ true
-unfolding toldOf among
-told-answers none = refl
-told-answers (some s) = refl
-
 pub demand-1-holds : {b : Book} → Reached b → Demand1 b
 demand-1-holds {b = b} p = record {
   applying = λ {s = s} {at = at} m. rw (m .obeys (reached-wf p) .answer) (move-keeps (view b) s at .bound);
   running = λ {s = s} {at = at} m. rw (m .answer) (reach-refuses (drop (walkOf s at .at) s) (walkOf s at .answer) (stops-there s at));
-  registering = λ index name scale m. rw (m .obeys (reached-wf p) .answer) (register-answers (view b) index name scale);
+  registering = λ index name scale m. rw (m .obeys (reached-wf p) .answer) (register-answers entryOf started (view b) index name scale);
   quoting = quote-answers (view b);
   summing = volume-answers (view b);
-  telling = λ index t. rw (t .answer) (told-answers (symbolIn index (view b)));
-  registering-unchanged = λ index name scale m n. m .kept (refused-registering _ (rw (m .obeys (reached-wf p) .answer) (register-answers (view b) index name scale)) n);
+  telling = λ index t. rw (t .answer) (told-answers (view b) index);
+  registering-unchanged = λ index name scale m n. m .kept (refused-registering _ (rw (m .obeys (reached-wf p) .answer) (register-answers entryOf started (view b) index name scale)) n);
   refused-unchanged = λ m. m .kept;
   refused-no-order = λ {s = s} {at = at} m n index. let o = m .obeys (reached-wf p) in
       ap (λ (v : View). liveOf (symbolIn index v)) (o .next-view) ∙ move-keeps (view b) s at .unless-done (λ z. n (o .answer ∙ z)) index;

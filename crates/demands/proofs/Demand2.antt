@@ -11,13 +11,14 @@ use Rattle.wire.specs.Reading.{readOf}
 use Rattle.wire.specs.declared.Head.{Head}
 use Rattle.wire.specs.declared.Message.{Message}
 use Rattle.wire.proofs.RoundTrip.{read-what-was-written, write-what-was-read}
+use Rattle.symbols.specs.Registering.{Next}
 use Rattle.book.specs.State.{Symbol, View, view, symbolIn}
 use Rattle.book.specs.Quote.{quoted, quoteOf, sideOf}
-use Rattle.book.specs.Step.{Next, buys, actOn, meant, stepOn, stepOf}
+use Rattle.book.specs.Step.{buys, actOn, meant, stepOn, stepOf}
 use Rattle.book.specs.Walk.{moveOf, walkOf, stepsOf, runOf, Moves, Runs}
 use Rattle.book.specs.Reached.{Reached}
 use Rattle.book.specs.declared.Book.{Book}
-use Rattle.book.specs.declared.quote.Level.{Level}
+use Rattle.orders.specs.declared.levels.Level.{Level}
 use Rattle.book.specs.declared.walk.Moved.{Moved}
 use Rattle.book.specs.declared.walk.Ran.{Ran}
 use Rattle.book.proofs.Holding.{orders-within, trades-within, one-live, one-kept}
@@ -63,8 +64,8 @@ module _ {b : Book} (p : Reached b) where
       let o = m .obeys (reached-wf p) in
       let acts = stands-acts (view b) t e in
       let is = is-quoted (buys side) (head .index) (view b) price size q in
-      ap (λ (v : View). sideOf (buys side) (quoteOf (head .index) v)) (o .next-view ∙ ap (λ (x : Next). x .view) acts)
-      ∙ case-d (buys side) (view b) (head .index) (head .number) order price volume size (is .symbol) (is .there) q (sym (o .answer ∙ ap (λ (x : Next). x .answer) acts) ∙ z)
+      ap (λ (v : View). sideOf (buys side) (quoteOf (head .index) v)) (o .next-view ∙ ap (λ (x : Next Symbol). x .view) acts)
+      ∙ case-d (buys side) (view b) (head .index) (head .number) order price volume size (is .symbol) (is .there) q (sym (o .answer ∙ ap (λ (x : Next Symbol). x .answer) acts) ∙ z)
 
   of-symbol : (index : ℕ) (s : Symbol) → symbolIn index (view b) ≡ some s → OfSymbol b index s
   of-symbol index s e = record {

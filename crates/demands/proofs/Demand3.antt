@@ -8,8 +8,9 @@ use Rattle.feed.specs.Reader.{indexOf, quote}
 use Rattle.feed.specs.Feed.{phase, first, second}
 use Rattle.feed.specs.Demand3 as feed
 use Rattle.feed.proofs.Demand3.{demand-3}
-use Rattle.book.specs.State.{View, view, Wf}
-use Rattle.book.specs.Step.{Next, actOn, stepOf}
+use Rattle.symbols.specs.Registering.{Next}
+use Rattle.book.specs.State.{Symbol, View, view, Wf}
+use Rattle.book.specs.Step.{actOn, stepOf}
 use Rattle.book.specs.Quote.{quoteOf}
 use Rattle.book.specs.Walk.{moveBy, moveOf, stepsOf, runOf, Moves}
 use Rattle.book.specs.declared.Book.{Book}
@@ -43,7 +44,7 @@ reads-after {b = b} w (applies {ms = ms} {c = c} {m = m} p stands moves) =
     let o = moves .obeys (a .sound) in
     record {
       sound = o .wf;
-      seen = o .next-view ∙ ap (λ (x : Next). x .view) (stands-step (view c) stands)
+      seen = o .next-view ∙ ap (λ (x : Next Symbol). x .view) (stands-step (view c) stands)
           ∙ ap (λ (v : View). stepOf v (readOf m) .view) (a .seen) ∙ sym (steps-last (view b) ms m);
     }
 reads-after w (refuses p moves least most) =
@@ -81,7 +82,7 @@ module _ (Takes : Book → List (List ℕ) → Book → Type 0) (faithful : Fait
         → r .answer ≡ feed.answered (phase (indexOf (actIn m)) (feedOf f)) (actIn m)
     unfolding feedOf
     answers-next {d = d} t {s = s} {at = at} {m = m} h stands moves =
-        moves .obeys (second-after t .sound) .answer ∙ ap (λ (x : Next). x .answer) (stands-step (view d) stands ∙ heard-acts (view b) f m (h .applied) (view d))
+        moves .obeys (second-after t .sound) .answer ∙ ap (λ (x : Next Symbol). x .answer) (stands-step (view d) stands ∙ heard-acts (view b) f m (h .applied) (view d))
         ∙ ap (λ (v : View). actOn v (actIn m) .answer) (second-view t)
         ∙ demand-3 pillar reader (view b) (view c) .answers (given-feed b c (hears f m) h)
 
@@ -129,7 +130,7 @@ zero-reads (to-lost p stands moves z) = applies (zero-reads p) stands moves
 zero-done : {b c : Book} {f : ByteFeed} {s : List ℕ} {at : ℕ} {m : List ℕ} {r : Moved} → Wf b → AnswersZero b f c → StandsAt s at m → Moves c s at r → r .answer ≡ 0 → IsDone (view b) (sent f) m
 zero-done {c = c} {m = m} w p stands moves z =
     let a = reads-after w (zero-reads p) in
-    ap (λ (v : View). stepOf v (readOf m) .answer) (sym (a .seen)) ∙ sym (ap (λ (x : Next). x .answer) (stands-step (view c) stands)) ∙ sym (moves .obeys (a .sound) .answer) ∙ z
+    ap (λ (v : View). stepOf v (readOf m) .answer) (sym (a .seen)) ∙ sym (ap (λ (x : Next Symbol). x .answer) (stands-step (view c) stands)) ∙ sym (moves .obeys (a .sound) .answer) ∙ z
 
 pub applied-by-calls : {b r : Book} {f : ByteFeed} → Began b → AnswersZero b f r → Applied (view b) f
 unfolding Applied

@@ -11,19 +11,22 @@ use Rattle.wire.specs.Table.{shapeOf}
 use Rattle.wire.specs.Fields.{faultBy, faultOf}
 use Rattle.wire.specs.Reading.{reachBy, reachOf, readBy, readBody, readSized, readShape, readTyped, readReached, readOf}
 use Rattle.feed.specs.Reader.{ruled, numbered}
-use Rattle.places.specs.Places.{firstWhere, among, fold, sumBy, insert, remove, look}
-use Rattle.book.specs.State.{Symbol, View, view, placeOf, symbolIn, vacancyOf, Fresh}
-use Rattle.book.specs.Rules.{applyTo}
-use Rattle.book.specs.Record.{dealTo}
-use Rattle.book.specs.Registering.{nameBad, newSymbol, registerOf}
-use Rattle.book.specs.Step.{enacted, meets, put, actOn, meant, stepOf}
-use Rattle.book.specs.Quote.{bestStep, sharesAt, levelOf, quoteOf}
+use Rattle.places.specs.Places.{firstWhere, fold, sumBy, insert, remove, look}
+use Rattle.symbols.specs.State.{placeOf, foundIn, vacancyOf}
+use Rattle.symbols.specs.Registering as registering
+use Rattle.symbols.specs.Registering.{nameBad}
+use Rattle.symbols.proofs.Entering.{some-entered}
+use Rattle.orders.specs.Rules.{applyTo}
+use Rattle.record.specs.Rules.{dealTo}
+use Rattle.book.specs.State.{Symbol, View, view, Fresh}
+use Rattle.book.specs.Registering.{registerOf}
+use Rattle.book.specs.Step.{enacted, meets, actOn, meant, stepOf}
+use Rattle.orders.specs.Levels.{bestStep, sharesAt, levelOf}
+use Rattle.book.specs.Quote.{quoteOf}
 use Rattle.book.specs.Walk.{stepsOf}
-use Rattle.book.specs.Changes.{withHead}
 use Rattle.book.specs.declared.Book.{Book}
-use Rattle.book.proofs.Acting.{changes}
 use Rattle.book.proofs.Beginning.{fresh}
-use Rattle.book.proofs.Registering.{newHead, registers}
+use Rattle.book.proofs.Registering.{with, registering-steps}
 use Rattle.demands.specs.Reader.{Effect, Registered}
 use Rattle.demands.specs.ByteFeed.{ByteFeed, sent, delivered, Complete, Applied, ClearsDelivered}
 use Rattle.demands.specs.Demand3.{Began, Given}
@@ -66,7 +69,7 @@ record AllFair : Type 0 where
   pub along : quotesAlong withLosses ≡ alongLosses
 
 all-fair : AllFair
-unfolding Complete Applied ClearsDelivered sent quotesAlong delivered quoteOf levelOf bestStep sharesAt fold sumBy value littleEndian shapeOf faultBy faultOf reachBy reachOf readBy readBody readSized readShape readTyped readReached readOf firstWhere insert remove look placeOf symbolIn vacancyOf applyTo dealTo nameBad registerOf ruled enacted meets actOn meant stepOf stepsOf
+unfolding Complete Applied ClearsDelivered sent quotesAlong delivered quoteOf levelOf bestStep sharesAt fold sumBy value littleEndian shapeOf faultBy faultOf reachBy reachOf readBy readBody readSized readShape readTyped readReached readOf firstWhere insert remove look placeOf foundIn vacancyOf applyTo dealTo nameBad registering.registered ruled enacted meets actOn meant stepOf stepsOf
 all-fair = record {
   one-add = record { complete = (tt, refl); applied = (tt, refl); clears = tt };
   with-losses = record {
@@ -104,7 +107,7 @@ module _ {b c : Book} (p : HasABC b) (q : HasABC c) where
 
 -- and with two symbols, registered in either order
 either-order : (i : ℕ) → Registered i viewABCThenXYZ ↔ Registered i viewXYZThenABC
-unfolding symbolIn placeOf vacancyOf firstWhere nameBad registerOf
+unfolding foundIn placeOf vacancyOf firstWhere nameBad registering.registered
 either-order i = go (eqb index i) (eqb other i) refl refl
   where
     go : (t u : Bool) → eqb index i ≡ t → eqb other i ≡ u → Registered i viewABCThenXYZ ↔ Registered i viewXYZThenABC
@@ -117,9 +120,9 @@ pub given-in-either-order : {b c : Book} → Began b → Began c → view b ≡ 
 given-in-either-order = met viewABCThenXYZ viewXYZThenABC withLosses (all-fair .to-two) either-order
 
 -- Once the last number is applied every further numbered message answers 6, so that a feed that is given goes on with a clear, and nothing can be lost before it.
-pub after-the-last : (s : Symbol) (i n : ℕ) (e : Effect) → s .stale ≡ false → s .expected ≡ last + 1 → n ≤ last → meets s (numbered i n e) .answer ≡ 6
+pub after-the-last : (s : Symbol) (i n : ℕ) (e : Effect) → s .entry .standing .stale ≡ false → s .entry .standing .expected ≡ last + 1 → n ≤ last → meets s (numbered i n e) .answer ≡ 6
 unfolding meets ruled enacted
-after-the-last s i n e fresh turn h = rw (fresh, lt-ltb n (s .expected) (omega arith))
+after-the-last s i n e fresh turn h = rw (fresh, lt-ltb n (s .entry .standing .expected) (omega arith))
 
 -- ---- such a state there is
 pub record WithABC : Type 0 where
@@ -127,13 +130,10 @@ pub record WithABC : Type 0 where
   pub has : HasABC book
 
 registers-ABC : (b : Book) → Fresh b → WithABC
-unfolding registerOf placeOf vacancyOf firstWhere nameBad among
-registers-ABC b f = record {
-  book = withHead b 0 (newHead index name scale) 0 .book;
-  has = registered f
-      (changes b (registerOf (view b) index name scale) (put (view b) 0 (record { symbol = newSymbol index name scale; answer = 0 })) (withHead b 0 (newHead index name scale) 0) (rw (f .new-view)) refl
-      (λ w. registers b index name scale 0 (rw (f .new-view)) (omega arith) (rw (f .heads)) (omega arith) w));
-}
+unfolding firstWhere nameBad
+registers-ABC b f =
+    let e = some-entered index name scale (omega arith) refl in
+    record { book = with b (e .result); has = registered f (registering-steps b index name scale (e .result) (rw (f .names) (e .registers))) }
 
 pub some-has-ABC : WithABC
 some-has-ABC = registers-ABC _ fresh

@@ -10,7 +10,7 @@ use Rattle.feed.proofs.Words as words
 use Rattle.book.specs.declared.Book.{Book}
 use Rattle.demands.specs.Reader.{Effect}
 use Rattle.demands.specs.ByteFeed.{ByteFeed, begins, hears, loses, Moment, now, then-hears, then-loses, Complete, Applied, ClearsDelivered, actIn, feedOf}
-use Rattle.demands.specs.Demand3.{Given, Standing, none-lost, after-loss, until-clear}
+use Rattle.demands.specs.Demand3.{Given, Stage, none-lost, after-loss, until-clear}
 
 module _ (b c : Book) where
   -- what is given of a feed is given of its every moment
@@ -64,16 +64,16 @@ earlier-still (then-hears p) = then-hears (earlier-still p)
 earlier-still (then-loses p) = then-loses (earlier-still p)
 
 module _ (index : ℕ) (f : ByteFeed) where
-  before-loss : (h : Feed Effect) (message : _) → AfterLoss index h (feedOf f) → (k : ByteFeed) → Moment k f → feedOf k ≡ h ▷ lost message → Standing index f
+  before-loss : (h : Feed Effect) (message : _) → AfterLoss index h (feedOf f) → (k : ByteFeed) → Moment k f → feedOf k ≡ h ▷ lost message → Stage index f
   unfolding feedOf
   before-loss h message a begins p e = absurd (let z : _≡_ {A = ℕ} 0 1 = cc in omega arith)
   before-loss h message a (hears k m) p e = absurd (let i : heard (actIn m) ≡ lost message = cc in let z : _≡_ {A = ℕ} 0 1 = cc in omega arith)
   before-loss h message a (loses k m) p e = let i : feedOf k ≡ h = cc in after-loss (earlier-still p) (rw i a)
 
-  pub every-moment : Standing index f
+  pub every-moment : Stage index f
   every-moment = go (phase index (feedOf f)) (words.every-moment index (feedOf f))
     where
-      go : (p : Phase Effect) → Stands index (feedOf f) p → Standing index f
+      go : (p : Phase Effect) → Stands index (feedOf f) p → Stage index f
       go _ (feed.none-lost n) = none-lost n
       go _ (feed.after-loss {h = h} a) = let x = found (a .since) f refl in before-loss h (a .message) a (x .moment) (x .earlier) (x .is)
       go _ (feed.until-clear u) = until-clear u

@@ -27,7 +27,7 @@ together-same (ran {s = bytes} {at = at} {q = q} {r = r} t p m) =
     record { left = p .obeys (s .left) .wf; right = m .obeys (s .right) .wf; views = same-alike s .running bytes at q r p m .2 }
 
 one-new : (a b : Book) → Fresh a → Fresh b → a ≡ b
-one-new a b f g = λ i. record { heads = (f .heads ∙ sym (g .heads)) i; orders = (f .orders ∙ sym (g .orders)) i; trades = (f .trades ∙ sym (g .trades)) i }
+one-new a b f g = λ i. record { symbols = (f .names ∙ sym (g .names)) i; orders = (f .orders ∙ sym (g .orders)) i; trades = (f .trades ∙ sym (g .trades)) i }
 
 pub one-outcome : OneOutcome
 one-outcome = record {

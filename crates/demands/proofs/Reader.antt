@@ -5,9 +5,9 @@ use mathlib.Core.Path.{_≡_, refl, ap}
 use Prim.Native.Nat.{ℕ}
 use Rattle.feed.specs.Reader.{Ruling, unchanged, made-stale, applied, replied, Act, clear, numbered, indexOf, Reader, answerOf, afterOf}
 use Rattle.feed.specs.Reader as feed
-use Rattle.book.specs.State.{Symbol, View, placeOf, symbolIn}
-use Rattle.book.specs.Record.{dealOf}
-use Rattle.book.specs.Step.{enacted, meets, actAt, actOn}
+use Rattle.symbols.specs.State.{placeOf}
+use Rattle.book.specs.State.{Symbol, View, entryOf, symbolIn}
+use Rattle.book.specs.Step.{dealOf, enacted, meets, actAt, actOn}
 use Rattle.book.specs.Quote.{quoted, quoteOf}
 use Rattle.book.proofs.Isolation.{unregistered-stays, own-symbol, own-symbol-only}
 use Rattle.demands.specs.Reader.{pillar, Orders, Effect, keptOf, keptIf, keptIn, asQuote}
@@ -41,7 +41,7 @@ module _ (v : View) (m : Act Effect) where
   unfolding actOn keptIn answerOf
   says = go (symbolIn (indexOf m) v)
     where
-      go : (x : Option Symbol) → actAt v (placeOf (indexOf m) v) x m .answer ≡ answerOf pillar (keptIf x) m
+      go : (x : Option Symbol) → actAt v (placeOf entryOf (indexOf m) v) x m .answer ≡ answerOf pillar (keptIf x) m
       go none = refl
       go (some s) = meets-answers s m
 
@@ -73,10 +73,10 @@ pub quotes-kept : (v : View) (index : ℕ) → quoteOf index v ≡ asQuote (feed
 unfolding quoteOf keptIn asQuote feed.quoteOf
 quotes-kept v index = go (symbolIn index v)
   where
-    shown : (s : Symbol) (stale : Bool) → s .stale ≡ stale → quoted (some s) ≡ asQuote (feed.quoteOf pillar (some (keptOf s)))
+    shown : (s : Symbol) (stale : Bool) → s .entry .standing .stale ≡ stale → quoted (some s) ≡ asQuote (feed.quoteOf pillar (some (keptOf s)))
     shown s true e = rw e
     shown s false e = rw e
 
     go : (x : Option Symbol) → quoted x ≡ asQuote (feed.quoteOf pillar (keptIf x))
     go none = refl
-    go (some s) = shown s (s .stale) refl
+    go (some s) = shown s (s .entry .standing .stale) refl

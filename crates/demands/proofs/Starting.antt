@@ -7,13 +7,18 @@ use lib.Dec.{ltb, eqb}
 use lib.ListN.{length}
 use borrow.Author.Tests.{eqb-true, eqb-false}
 use Rattle.feed.specs.Reader.{New, unregistered, registered}
-use Rattle.book.specs.State.{symbols, View, view, placeOf, vacancyOf, symbolIn, Wf, Fresh}
-use Rattle.book.specs.Registering.{newSymbol, registeredIf, bad, registerOf}
+use Rattle.places.specs.Places.{symbols}
+use Rattle.symbols.specs.State.{placeOf, vacancyOf}
+use Rattle.symbols.specs.Registering as registering
+use Rattle.symbols.specs.Registering.{bad, newEntry, registeredIf}
+use Rattle.book.specs.State.{View, view, entryOf, symbolIn, Wf, Fresh}
+use Rattle.book.specs.Registering.{started, registerOf}
 use Rattle.book.specs.Reached.{Reached}
 use Rattle.book.specs.Reached as reached
 use Rattle.book.specs.declared.Book.{Book}
 use Rattle.book.proofs.Views.{length-view}
-use Rattle.book.proofs.Newcomers.{new-unregistered, register-own, register-others}
+use Rattle.book.proofs.Beginning.{new-unregistered}
+use Rattle.symbols.proofs.Finding.{register-own, register-others}
 use Rattle.book.proofs.Reaching.{reached-wf}
 use Rattle.demands.specs.Reader.{pillar, keptIf, keptIn}
 use Rattle.demands.specs.Demand3.{Began, new, registers}
@@ -38,15 +43,15 @@ module _ (v : View) (eight : length v ≡ symbols) (index : ℕ) (name : List �
   done-new d i = go (eqb i index) refl
     where
       go : (same : Bool) → eqb i index ≡ same → New pillar (keptIf (symbolIn i (registerOf v index name scale .view)))
-      go true e = rw (eqb-true i index e, register-own v eight index name scale d) registered
-      go false e = rw (register-others v eight index name scale d i (eqb-false i index e)) (before i)
+      go true e = rw (eqb-true i index e, register-own entryOf started v index name scale eight refl d) registered
+      go false e = rw (register-others entryOf started v index name scale eight refl d i (eqb-false i index e)) (before i)
 
   registered-new : AllNew (registerOf v index name scale .view)
-  unfolding registerOf
-  registered-new = go (bad name scale) (ltb (placeOf index v) symbols) (ltb (vacancyOf v) symbols) refl refl refl
+  unfolding registering.registered
+  registered-new = go (bad name scale) (ltb (placeOf entryOf index v) symbols) (ltb (vacancyOf v) symbols) refl refl refl
     where
-      go : (t u r : Bool) → bad name scale ≡ t → ltb (placeOf index v) symbols ≡ u → ltb (vacancyOf v) symbols ≡ r
-          → AllNew (registeredIf (bad name scale) (ltb (placeOf index v) symbols) (ltb (vacancyOf v) symbols) v (newSymbol index name scale) .view)
+      go : (t u r : Bool) → bad name scale ≡ t → ltb (placeOf entryOf index v) symbols ≡ u → ltb (vacancyOf v) symbols ≡ r
+          → AllNew (registeredIf (bad name scale) (ltb (placeOf entryOf index v) symbols) (ltb (vacancyOf v) symbols) v (started (newEntry index name scale)) .view)
       go true u r p q z = rw p before
       go false true r p q z = rw (p, q) before
       go false false false p q z = rw (p, q, z) before

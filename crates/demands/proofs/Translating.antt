@@ -11,8 +11,9 @@ use Rattle.wire.specs.declared.Message.{Message}
 use Rattle.feed.specs.Reader.{Act, clear, numbered}
 use Rattle.feed.specs.Feed.{Feed, _▷_, lost, ClearsHeard, Accepted, first, second}
 use Rattle.feed.specs.Feed as feed
+use Rattle.symbols.specs.Registering.{Next}
 use Rattle.book.specs.State.{Symbol, View, view, symbolIn}
-use Rattle.book.specs.Step.{Next, actOn, meant, stepOn, stepOf}
+use Rattle.book.specs.Step.{actOn, meant, stepOn, stepOf}
 use Rattle.book.specs.Walk.{stepsOf}
 use Rattle.book.specs.declared.Book.{Book}
 use Rattle.book.proofs.Walking.{steps-join}
@@ -82,7 +83,7 @@ unfolding stepsOf
 steps-last v ms m = steps-join v ms (m ∷ [])
 
 acts-last : (v w : View) (ms : List (List ℕ)) (m : List ℕ) → IsRead m → stepsOf v ms ≡ w → stepsOf v (ms ++ m ∷ []) ≡ actOn w (actIn m) .view
-acts-last v w ms m r e = steps-last v ms m ∙ ap (λ (x : Next). x .view) (step-acts (stepsOf v ms) m r) ∙ ap (λ (x : View). actOn x (actIn m) .view) e
+acts-last v w ms m r e = steps-last v ms m ∙ ap (λ (x : Next Symbol). x .view) (step-acts (stepsOf v ms) m r) ∙ ap (λ (x : View). actOn x (actIn m) .view) e
 
 -- ---- the two readers
 module _ (v : View) where
@@ -109,7 +110,7 @@ module _ (v : View) where
   next-accepted : (f : ByteFeed) (m : List ℕ) → Applied v f → IsDone v (sent f) m → actOn (first pillar reader v (feedOf f)) (actIn m) .answer ≡ 0
   next-accepted f m a d =
       ap (λ (x : View). actOn x (actIn m) .answer) (sym (first-steps f a))
-      ∙ sym (ap (λ (x : Next). x .answer) (step-acts (stepsOf v (sent f)) m (is-read f m d))) ∙ d
+      ∙ sym (ap (λ (x : Next Symbol). x .answer) (step-acts (stepsOf v (sent f)) m (is-read f m d))) ∙ d
 
   feed-accepted : (f : ByteFeed) → Applied v f → Accepted pillar reader v (feedOf f)
   unfolding Applied feedOf Accepted

@@ -11,13 +11,15 @@ use Rattle.wire.specs.Reading.{reachBy, reachOf, readBy, readBody, readSized, r
 use Rattle.feed.specs.Book.{fitted, bookAfter, bookOf}
 use Rattle.feed.specs.Demand3.{here, more, at-start, NotLost, NoneLost}
 use Rattle.places.specs.Places.{firstWhere, fold, sumBy, insert, look}
-use Rattle.book.specs.State.{placeOf, symbolIn, vacancyOf}
-use Rattle.book.specs.Rules.{applyTo}
-use Rattle.book.specs.Registering.{nameBad, registerOf}
+use Rattle.symbols.specs.State.{placeOf, foundIn, vacancyOf}
+use Rattle.orders.specs.Rules.{applyTo}
+use Rattle.symbols.specs.Registering as registering
+use Rattle.symbols.specs.Registering.{nameBad}
 use Rattle.book.specs.Step.{meant}
-use Rattle.book.specs.Quote.{bestStep, sharesAt, levelOf, noQuote, quotedIf, quoteOf}
+use Rattle.orders.specs.Levels.{bestStep, sharesAt, levelOf}
+use Rattle.book.specs.Quote.{noQuote, quotedIf, quoteOf}
 use Rattle.book.specs.declared.Book.{Book}
-use Rattle.book.specs.declared.quote.Level.{Level}
+use Rattle.orders.specs.declared.levels.Level.{Level}
 use Rattle.book.specs.declared.quote.Quote.{Quote}
 use Rattle.demands.specs.Reader.{pillar, Registered}
 use Rattle.demands.specs.ByteFeed.{sent, delivered, feedOf}
@@ -34,7 +36,7 @@ record Computed : Type 0 where
   pub none-lost : NoneLost index (feedOf oneAdd)
 
 computed : Computed
-unfolding feedOf bookOf bookAfter fitted NotLost quoteOf levelOf bestStep sharesAt fold sumBy value littleEndian shapeOf faultBy faultOf reachBy reachOf readBy readBody readSized readShape readTyped readReached readOf firstWhere insert look placeOf symbolIn vacancyOf applyTo nameBad registerOf meant
+unfolding feedOf bookOf bookAfter fitted NotLost quoteOf levelOf bestStep sharesAt fold sumBy value littleEndian shapeOf faultBy faultOf reachBy reachOf readBy readBody readSized readShape readTyped readReached readOf firstWhere insert look placeOf foundIn vacancyOf applyTo nameBad registering.registered meant
 computed = record { book = refl; before = refl; registered = tt; none-lost = record { from = _; counts = at-start; since = more here tt } }
 
 module _ (Takes : Book → List (List ℕ) → Book → Type 0) {b c : Book} (demand : Demand3 Takes b c) (p : HasABC b) (q : HasABC c) where

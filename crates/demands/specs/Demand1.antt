@@ -13,7 +13,7 @@ use Rattle.book.specs.Quote.{quoteOf, volumeOf}
 use Rattle.book.specs.Walk.{Moves, Runs}
 use Rattle.book.specs.declared.Book.{Book}
 use Rattle.book.specs.declared.Done.{Done}
-use Rattle.book.specs.declared.symbols.Registered as asked
+use Rattle.symbols.specs.declared.registering.Listing.{Listing}
 use Rattle.book.specs.declared.walk.Moved.{Moved}
 use Rattle.book.specs.declared.walk.Ran.{Ran}
 use Rattle.demands.specs.Reader.{Orders}
@@ -30,7 +30,7 @@ pub record Demand1 (b : Book) : Type 0 where
   pub registering : {r : Done} (index : ℕ) (name : List ℕ) (scale : ℕ) → Steps b (registerOf (view b) index name scale) r → among (r .answer) (0 ∷ 11 ∷ 12 ∷ 13 ∷ []) ≡ true
   pub quoting : (index : ℕ) → among (quoteOf index (view b) .answer) (0 ∷ 5 ∷ 8 ∷ []) ≡ true
   pub summing : (index : ℕ) → among (volumeOf index (view b) .answer) (0 ∷ 5 ∷ []) ≡ true
-  pub telling : {r : asked.Registered} (index : ℕ) → Told b index r → among (r .answer) (0 ∷ 5 ∷ []) ≡ true
+  pub telling : {r : Listing} (index : ℕ) → Told b index r → among (r .answer) (0 ∷ 5 ∷ []) ≡ true
   -- a refused registering leaves the state as it was
   pub registering-unchanged : {r : Done} (index : ℕ) (name : List ℕ) (scale : ℕ) → Steps b (registerOf (view b) index name scale) r → r .answer ≢ 0 → r .book ≡ b
   -- 1 to 6 and 8 leave the state as it was, and no refusal changes an order

@@ -17,13 +17,16 @@ use Rattle.wire.specs.declared.Head.{Head}
 use Rattle.wire.specs.declared.Message.{Message}
 use Rattle.feed.specs.Reader.{indexOf}
 use Rattle.places.specs.Places.{count, sumBy}
-use Rattle.book.specs.State.{ordersEach, tradesEach, orderNumber, tradeNumber, Symbol, view, symbolIn}
+use Rattle.orders.specs.State.{ordersEach, orderNumber}
+use Rattle.record.specs.State.{tradesEach, tradeNumber}
+use Rattle.book.specs.State.{Symbol, view, symbolIn}
 use Rattle.book.specs.Promises.{Obeys}
-use Rattle.book.specs.Quote.{counts, sharesAt, sideOf, NoBetter, Attained, volumeOf}
+use Rattle.orders.specs.Levels.{counts, sharesAt, NoBetter, Attained}
+use Rattle.book.specs.Quote.{sideOf, volumeOf}
 use Rattle.book.specs.Step.{buys, meant}
 use Rattle.book.specs.Walk.{moveOf, walkOf, runOf, Moves, Runs}
 use Rattle.book.specs.declared.Book.{Book}
-use Rattle.book.specs.declared.quote.Level.{Level}
+use Rattle.orders.specs.declared.levels.Level.{Level}
 use Rattle.book.specs.declared.walk.Moved.{Moved}
 use Rattle.book.specs.declared.walk.Ran.{Ran}
 use Rattle.demands.specs.Demand3.{StandsAt, quoteIn}

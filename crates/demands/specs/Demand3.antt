@@ -102,7 +102,7 @@ module _ (Takes : Book → List (List ℕ) → Book → Type 0) (b c : Book) whe
   Demand3 = (f : ByteFeed) (first second : Book) → Now f first second → Quotes f first second
 
 -- at every moment a symbol stands in one of these, so that one of the clauses says what is quoted (`every-moment`)
-pub data Standing (index : ℕ) (f : ByteFeed) : Type 0 where
-  none-lost : NoneLost index (feedOf f) → Standing index f
-  after-loss : {h : ByteFeed} → Moment h f → AfterLoss index (feedOf h) (feedOf f) → Standing index f
-  until-clear : UntilClear index (feedOf f) → Standing index f
+pub data Stage (index : ℕ) (f : ByteFeed) : Type 0 where
+  none-lost : NoneLost index (feedOf f) → Stage index f
+  after-loss : {h : ByteFeed} → Moment h f → AfterLoss index (feedOf h) (feedOf f) → Stage index f
+  until-clear : UntilClear index (feedOf f) → Stage index f

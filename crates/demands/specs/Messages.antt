@@ -3,7 +3,7 @@ use Prim.Native.Nat.{ℕ}
 use mathlib.Core.List.{List, [], _∷_, _++_}
 use Rattle.wire.specs.Bytes.{littleEndian}
 use Rattle.wire.specs.Fields.{buyLetter, sellLetter}
-use Rattle.book.specs.declared.quote.Level.{Level}
+use Rattle.orders.specs.declared.levels.Level.{Level}
 use Rattle.book.specs.declared.quote.Quote.{Quote}
 
 -- fields one after the other, each with its size

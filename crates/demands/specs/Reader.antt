@@ -6,9 +6,11 @@ use Prim.Native.Nat.{ℕ}
 use Rattle.feed.specs.Reader.{Kept, Rules}
 use Rattle.feed.specs.Reader as feed
 use Rattle.book.specs.State.{Symbol, View, symbolIn}
-use Rattle.book.specs.Rules.{applyTo}
-use Rattle.book.specs.Quote.{levelOf, noQuote}
-use Rattle.book.specs.declared.quote.Level.{Level}
+use Rattle.book.specs.Step.{changeOf}
+use Rattle.orders.specs.Rules.{applyTo}
+use Rattle.orders.specs.Levels.{levelOf}
+use Rattle.book.specs.Quote.{noQuote}
+use Rattle.orders.specs.declared.levels.Level.{Level}
 use Rattle.book.specs.declared.quote.Quote.{Quote}
 
 -- what a quote shows: for each side none, or the best price with the exact sum at it
@@ -18,7 +20,7 @@ pub record Sides : Type 0 where
 
 -- document 01's rules of the book: a symbol's live orders, what a numbered message does to them, and what a quote shows of them
 abbrev pub pillar : Rules
-pillar = record { Orders = _; Effect = _; Shown = Sides; empty = []; apply = applyTo; shows = λ orders. record { bid = levelOf true orders; ask = levelOf false orders } }
+pillar = record { Orders = _; Effect = _; Shown = Sides; empty = []; apply = λ orders e. applyTo orders (changeOf e); shows = λ orders. record { bid = levelOf true orders; ask = levelOf false orders } }
 
 abbrev pub Orders : Type 0
 Orders = pillar .Orders
@@ -28,7 +30,7 @@ Effect = pillar .Effect
 
 -- what demand 3 sees of a symbol
 abbrev pub keptOf : Symbol → Kept Orders
-keptOf s = record { expected = s .expected; stale = s .stale; orders = s .orders }
+keptOf s = record { expected = s .entry .standing .expected; stale = s .entry .standing .stale; orders = s .orders }
 
 abbrev pub keptIf : Option Symbol → Option (Kept Orders)
 keptIf none = none

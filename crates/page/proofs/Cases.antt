@@ -1,8 +1,8 @@
 -- Each test of printing decides one clause of the rule, so each case is one law; and no clause touches a byte beyond its count.
 use mathlib.Core.Path.{_≡_, refl, ap, sym, _∙_}
-use mathlib.Core.List.{List, [], _∷_, _++_}
+use mathlib.Core.List.{List, _++_}
 use mathlib.Core.Bool.{Bool, true, false}
-use Prim.Native.Nat.{ℕ, zero, suc, _≤_, _<_}
+use Prim.Native.Nat.{ℕ, _≤_, _<_}
 use native.Mathlib.Omega.{arith}
 use lib.ListN.{length, take, drop}
 use lib.Seq.{drop-append-seam}
@@ -12,8 +12,9 @@ use Rattle.wire.specs.Outcome.{Outcome, done, refused, numberOf}
 use Rattle.wire.specs.Writing.{Write, refuse, countOf}
 use Rattle.wire.specs.Message.{typeOf, hasBadField}
 use Rattle.wire.specs.declared.Message.{Message}
-use Rattle.book.specs.declared.symbols.Registered.{Registered}
-use Rattle.page.specs.Columns.{columnsOf, rendered}
+use Rattle.symbols.specs.declared.registering.Listing.{Listing}
+use Rattle.columns.specs.Columns.{rendered}
+use Rattle.page.specs.Columns.{columnsOf}
 use Rattle.page.specs.Printing.{hasNoLine, lastSecond, laidIf, laid, lineBy, lineOf, RefusedAnyway}
 
 -- ---- the room
@@ -26,20 +27,15 @@ module _ (line out : List ℕ) where
   unfolding laid
   laid-fits h = rw (le-ltb _ _ h) refl
 
-take-as-many : (n : ℕ) (xs : List ℕ) → take (length (take n xs)) xs ≡ take n xs
-take-as-many zero xs = refl
-take-as-many (suc n) [] = refl
-take-as-many (suc n) (x ∷ xs) = ap (λ l. x ∷ l) (take-as-many n xs)
-
--- what is held of a line, copied by its count
-pub laid-held : (n k : ℕ) (xs out : List ℕ) → k ≡ length (take n xs) → k ≤ length out →
-    record { outcome = done k; out = take k xs ++ drop k out } ≡ laid (take n xs) out
-laid-held n k xs out e h =
-    (λ i. record { outcome = done (e i); out = (ap (λ j. take j xs) e ∙ take-as-many n xs) i ++ drop (e i) out })
-    ∙ sym (laid-fits (take n xs) out (omega (arith, e, h)))
+-- a line copied by its count from bytes that begin with it
+pub laid-copied : (line bs out : List ℕ) (k : ℕ) → k ≡ length line → take (length line) bs ≡ line → k ≤ length out →
+    record { outcome = done k; out = take k bs ++ drop k out } ≡ laid line out
+laid-copied line bs out k e b h =
+    (λ i. record { outcome = done (e i); out = (ap (λ j. take j bs) e ∙ b) i ++ drop (e i) out })
+    ∙ sym (laid-fits line out (omega (arith, e, h)))
 
 -- ---- the checks, in their order
-module _ (s : Registered) (m : Message) (plain : List ℕ) (sequence second : ℕ) (out : List ℕ) where
+module _ (s : Listing) (m : Message) (plain : List ℕ) (sequence second : ℕ) (out : List ℕ) where
   pub line-no-type : hasNoLine (typeOf m) ≡ true → lineOf s m plain sequence second out ≡ refuse 3 out
   unfolding lineOf lineBy
   line-no-type h = rw h refl
@@ -82,7 +78,7 @@ refused-alike false false false late line line′ out k h e = refused-is 5 k out
 refused-alike false false true true line line′ out k h e = refused-is 14 k out e
 refused-alike false false true false line line′ out k h e = absurd (laid-not-refused (ltb (length out) (length line)) line out k h e)
 
-pub line-refuses : (s t : Registered) (m : Message) (plain : List ℕ) (sequence second : ℕ) (out : List ℕ) → s .answer ≡ t .answer →
+pub line-refuses : (s t : Listing) (m : Message) (plain : List ℕ) (sequence second : ℕ) (out : List ℕ) → s .answer ≡ t .answer →
     RefusedAnyway (lineOf t m plain sequence second out) out (lineOf s m plain sequence second out)
 unfolding RefusedAnyway lineOf
 line-refuses s t m plain sequence second out e k h r = rw e (refused-alike _ _ _ _ _ _ out k h r)
@@ -103,6 +99,6 @@ line-stays false false false late line out = refl
 line-stays false false true true line out = refl
 line-stays false false true false line out = laid-stays (ltb (length out) (length line)) line out
 
-pub bytes-beyond-stay : (s : Registered) (m : Message) (plain : List ℕ) (sequence second : ℕ) (out : List ℕ) → StaysBeyond (lineOf s m plain sequence second out) out
+pub bytes-beyond-stay : (s : Listing) (m : Message) (plain : List ℕ) (sequence second : ℕ) (out : List ℕ) → StaysBeyond (lineOf s m plain sequence second out) out
 unfolding lineOf
 bytes-beyond-stay s m plain sequence second out = line-stays _ _ _ _ _ out

@@ -4,11 +4,12 @@ use mathlib.Core.List.{List, [], _∷_, _++_, append-assoc}
 use Prim.Native.Nat.{ℕ}
 use denote.Enum.Declared.{tagOf}
 use types.Run.{OneOf, miss}
-use Rattle.page.specs.Columns.{Column, number, clock, bytes, shown, next, further, joined, nameOf, opening, columnsOf}
-use Rattle.page.specs.Held.{HoldsText, Adds}
-use Rattle.page.specs.declared.text.Line.{Line}
-use Rattle.page.proofs.Holding.{holds-then}
-use Rattle.book.specs.declared.symbols.Registered.{Registered}
+use Rattle.columns.specs.Columns.{Column, number, clock, bytes, shown, next, further, joined}
+use Rattle.page.specs.Columns.{nameOf, opening, columnsOf}
+use Rattle.columns.specs.Held.{HoldsText, Adds}
+use Rattle.columns.specs.declared.Line.{Line}
+use Rattle.columns.proofs.Holding.{holds-then}
+use Rattle.symbols.specs.declared.registering.Listing.{Listing}
 use Rattle.wire.specs.declared.Head.{Head}
 use Rattle.wire.proofs.Message as message
 use Rattle.wire.specs.declared.Message.{Message}
@@ -22,13 +23,13 @@ joined-append : (c : Column) (cs ds : List Column) → joined (c ∷ cs) ++ furt
 joined-append c cs ds = append-assoc (shown c) (further cs) (further ds) ∙ ap (λ l. shown c ++ l) (further-append cs ds)
 
 -- the columns that every line begins with, and the type's own
-pub opening-then : (type : ℕ) (s : Registered) (h : Head) (sequence second : ℕ) (ds : List Column) {a b : Line} →
+pub opening-then : (type : ℕ) (s : Listing) (h : Head) (sequence second : ℕ) (ds : List Column) {a b : Line} →
     HoldsText (joined (opening type s h sequence second)) a → Adds a (further ds) b → HoldsText (joined (opening type s h sequence second ++ ds)) b
 opening-then type s h sequence second ds {a} {b} p q =
     subst (λ x. HoldsText x b) (joined-append (number type) (number sequence ∷ clock second (h .nanos) ∷ bytes (nameOf s) ∷ number (h .number) ∷ []) ds) (holds-then p q)
 
 -- a message that is neither an add nor a cross, by its place among the 13
-pub no-columns : (s : Registered) (m : Message) (plain : List ℕ) (sequence second : ℕ) →
+pub no-columns : (s : Listing) (m : Message) (plain : List ℕ) (sequence second : ℕ) →
     OneOf (1 ∷ 2 ∷ 3 ∷ 4 ∷ 5 ∷ 6 ∷ 8 ∷ 9 ∷ 10 ∷ 11 ∷ 12 ∷ []) (tagOf message.the-type m) → columnsOf s m plain sequence second ≡ []
 no-columns s (Add h order p volume side) plain sequence second k = absurd (miss (1 ∷ 2 ∷ 3 ∷ 4 ∷ 5 ∷ 6 ∷ 8 ∷ 9 ∷ 10 ∷ 11 ∷ 12 ∷ []) 0 tt k)
 no-columns s (Cross h cross p volume class) plain sequence second k = absurd (miss (1 ∷ 2 ∷ 3 ∷ 4 ∷ 5 ∷ 6 ∷ 8 ∷ 9 ∷ 10 ∷ 11 ∷ 12 ∷ []) 7 tt k)

@@ -1,5 +1,3 @@
-pub mod Digits
-pub mod Holding
 pub mod Columns
 pub mod Lengths
 pub mod Longest

@@ -14,12 +14,15 @@ use Rattle.wire.specs.Message.{fieldsOf}
 use Rattle.wire.specs.RoundTrip.{InRange}
 use Rattle.wire.specs.declared.Head.{Head}
 use Rattle.wire.specs.declared.Message.the-variants.{Add, Cross}
-use Rattle.book.specs.State.{nameBytes}
-use Rattle.book.specs.declared.symbols.Registered.{Registered}
-use Rattle.page.specs.Text.{fixed, digit, digitsBy, digits, mostDigits, priced, timed}
-use Rattle.page.specs.Columns.{number, price, clock, bytes, text, nameOf, firmBytes, columnsOf, rendered}
-use Rattle.page.proofs.Digits.{by-one, by-more, fewer-digits}
-use Rattle.page.proofs.Lengths.{Fits, price-fits, fits-its-width, Within, none, one, within-append, rendered-within}
+use Rattle.symbols.specs.State.{nameBytes}
+use Rattle.symbols.specs.Registering.{mostScale}
+use Rattle.symbols.specs.declared.registering.Listing.{Listing}
+use Rattle.columns.specs.Text.{fixed, digit, digitsBy, digits, mostDigits, priced, timed}
+use Rattle.columns.specs.Columns.{number, price, clock, bytes, text, rendered}
+use Rattle.page.specs.Columns.{nameOf, firmBytes, columnsOf}
+use Rattle.page.specs.Printing.{lastSecond}
+use Rattle.columns.proofs.Digits.{by-one, by-more, fewer-digits}
+use Rattle.columns.proofs.Lengths.{Fits, price-fits, fits-its-width, Within, none, one, within-append, rendered-within}
 
 fits-step : (f k n : ℕ) → n < 10 ^ suc k → ((j : ℕ) → n / 10 < 10 ^ suc j → length (digitsBy f (n / 10)) ≤ suc j) → (b : Bool) → ltb n 10 ≡ b →
     length (digitsBy (suc f) n) ≤ suc k
@@ -41,7 +44,7 @@ number-within : (k n : ℕ) → n < 10 ^ suc k → Fits (number n) (suc k)
 number-within k n h = record { fits = digits-fit k n h }
 
 -- ten digits and a point: the digits before it are as many fewer as the scale
-price-within : (s p : ℕ) → s ≤ 6 → p < 10 ^ 10 → Fits (price s p) 11
+price-within : (s p : ℕ) → s ≤ mostScale → p < 10 ^ 10 → Fits (price s p) 11
 price-within s p h k =
     let digits-in-all : suc (9 - s) + s ≡ 10 = omega arith in
     let below : p < 10 ^ suc (9 - s) * 10 ^ s = rw (← (pow-add 10 (suc (9 - s)) s), digits-in-all) k in
@@ -53,7 +56,7 @@ price-within s p h k =
 firm-fits : (plain : List ℕ) → Fits (text (take firmBytes plain)) firmBytes
 firm-fits plain = record { fits = omega (arith, fits-its-width (text (take firmBytes plain)) .fits, length-take firmBytes plain) }
 
-module _ (s : Registered) (h : Head) (plain : List ℕ) (sequence second : ℕ) (name : length (nameOf s) ≤ nameBytes) (scale : s .scale ≤ 6) (feed : sequence < 2 ^ 32) where
+module _ (s : Listing) (h : Head) (plain : List ℕ) (sequence second : ℕ) (name : length (nameOf s) ≤ nameBytes) (scale : s .scale ≤ mostScale) (feed : sequence < 2 ^ 32) where
   -- what follows the type in every line
   opening-within : h .number < 2 ^ 32 →
       Within (number sequence ∷ clock second (h .nanos) ∷ bytes (nameOf s) ∷ number (h .number) ∷ []) (10 ∷ 18 ∷ nameBytes ∷ 10 ∷ [])
@@ -86,16 +89,23 @@ module _ (s : Registered) (h : Head) (plain : List ℕ) (sequence second : ℕ) 
       (one (fits-its-width (text (class ∷ []))) none)))))
 
 -- ---- both bounds are met
-abbrev widest : Registered
-widest = record { answer = 0; name = replicate nameBytes 65; len = nameBytes; scale = 6 }
+abbrev widest : Listing
+widest = record { answer = 0; name = replicate nameBytes 65; len = nameBytes; scale = mostScale }
+
+-- the largest numbers of 32 and of 64 bits
+abbrev most : ℕ
+most = 4294967295
+
+abbrev mostLong : ℕ
+mostLong = 18446744073709551615
 
 abbrev last : Head
-last = record { nanos = 999999999; index = 0; number = 4294967295 }
+last = record { nanos = 999999999; index = 0; number = most }
 
-pub longest-add : length (rendered (columnsOf widest (Add last 18446744073709551615 4294967295 4294967295 66) (replicate plainRoom 65) 4294967295 86399)) ≡ 111
+pub longest-add : length (rendered (columnsOf widest (Add last mostLong most most 66) (replicate plainRoom 65) most lastSecond)) ≡ 111
 unfolding rendered fixed digitsBy digits priced timed
 longest-add = refl
 
-pub longest-cross : length (rendered (columnsOf widest (Cross last 4294967295 4294967295 4294967295 65) (replicate plainRoom 0) 4294967295 86399)) ≡ 93
+pub longest-cross : length (rendered (columnsOf widest (Cross last most most most 65) (replicate plainRoom 0) most lastSecond)) ≡ 93
 unfolding rendered fixed digitsBy digits priced timed
 longest-cross = refl

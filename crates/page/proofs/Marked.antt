@@ -8,8 +8,9 @@ use Rattle.wire.specs.Writing.{refuse}
 use Rattle.wire.specs.Message.{hasBadField}
 use Rattle.wire.specs.Table.{shapeOf}
 use Rattle.wire.specs.Fields.{faultOf, faultBy}
-use Rattle.page.specs.Text.{fixed, digitsBy, digits, priced, timed}
-use Rattle.page.specs.Columns.{columnsOf, rendered}
+use Rattle.columns.specs.Text.{fixed, digitsBy, digits, priced, timed}
+use Rattle.columns.specs.Columns.{rendered}
+use Rattle.page.specs.Columns.{columnsOf}
 use Rattle.page.specs.Marked.{ascii, abc, add, firm, lineL, sequenceL, secondL}
 use Rattle.page.specs.Printing.{hasNoLine, laid, lineBy, lineOf}
 use Rattle.page.proofs.Cases.{laid-fits}

@@ -16,13 +16,13 @@ use Rattle.wire.specs.Message.{typeOf}
 use Rattle.wire.specs.declared.Answer.{Answer}
 use Rattle.wire.specs.declared.Message.{Message}
 use Rattle.book.specs.declared.Book.{Book}
-use Rattle.book.specs.declared.quote.Level.{Level}
+use Rattle.orders.specs.declared.levels.Level.{Level}
 use Rattle.book.specs.declared.quote.Quote.{Quote}
-use Rattle.page.specs.Columns.{number, rendered}
-use Rattle.page.specs.Held.{room}
+use Rattle.columns.specs.Columns.{number, rendered}
+use Rattle.columns.specs.Held.{room}
 use Rattle.page.specs.Printing.{hasNoLine, laid, lineOf, told}
 use Rattle.page.specs.Printout.{letterE, letterQ, refusal, sequenceOf, doneOf, passedOf, endText, levelColumns, quoteText}
-use Rattle.page.proofs.Lengths.{total, widths, line-within-widths}
+use Rattle.columns.proofs.Lengths.{total, widths, line-within-widths}
 
 -- ---- room
 pub refusal-has-room : (answer place : ℕ) → length (rendered (refusal answer place)) ≤ room

@@ -7,7 +7,7 @@ use Rattle.wire.specs.Bytes.{paddedPlain}
 use Rattle.wire.specs.Fields.{buyLetter}
 use Rattle.wire.specs.declared.Message.{Message}
 use Rattle.wire.specs.declared.Message.the-variants.{Add}
-use Rattle.book.specs.declared.symbols.Registered.{Registered}
+use Rattle.symbols.specs.declared.registering.Listing.{Listing}
 
 abbrev pub asciiFrom : ℕ → ℕ → String → List ℕ
 asciiFrom zero i s = []
@@ -18,7 +18,7 @@ abbrev pub ascii : String → List ℕ
 ascii s = asciiFrom (len s) 0 s
 
 -- index 7, scale 4
-abbrev pub abc : Registered
+abbrev pub abc : Listing
 abc = record { answer = 0; name = 65 ∷ 66 ∷ 67 ∷ 0 ∷ 0 ∷ 0 ∷ 0 ∷ 0 ∷ 0 ∷ 0 ∷ 0 ∷ []; len = 3; scale = 4 }
 
 -- #3: add 1001 buy 1234500 x 200, at 125 nanoseconds

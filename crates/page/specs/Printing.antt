@@ -9,11 +9,12 @@ use Rattle.wire.specs.Outcome.{Outcome, done, refused}
 use Rattle.wire.specs.Writing.{Write, refuse}
 use Rattle.wire.specs.Message.{typeOf, indexIn, hasBadField}
 use Rattle.wire.specs.declared.Message.{Message}
-use Rattle.book.specs.State.{view, symbolIn}
-use Rattle.book.specs.Registering.{toldOf}
+use Rattle.book.specs.State.{view}
+use Rattle.book.specs.Registering.{toldIn}
 use Rattle.book.specs.declared.Book.{Book}
-use Rattle.book.specs.declared.symbols.Registered.{Registered}
-use Rattle.page.specs.Columns.{columnsOf, rendered}
+use Rattle.symbols.specs.declared.registering.Listing.{Listing}
+use Rattle.columns.specs.Columns.{rendered}
+use Rattle.page.specs.Columns.{columnsOf}
 use Rattle.page.specs.declared.Printed.{Printed}
 
 -- document 01's number and value of each case
@@ -53,13 +54,13 @@ lineBy false false true true line out = refuse 14 out
 lineBy false false true false line out = laid line out
 
 -- the line of a message at the start of out, by what is told of its symbol
-unfoldable pub lineOf : Registered → Message → List ℕ → ℕ → ℕ → List ℕ → Write
+unfoldable pub lineOf : Listing → Message → List ℕ → ℕ → ℕ → List ℕ → Write
 lineOf s m plain sequence second out =
     lineBy (hasNoLine (typeOf m)) (hasBadField m) (eqb (s .answer) 0) (ltb lastSecond second) (rendered (columnsOf s m plain sequence second)) out
 
 -- what a book tells of a message's symbol
-abbrev pub told : Book → Message → Registered
-told b m = toldOf (symbolIn (indexIn m) (view b))
+abbrev pub told : Book → Message → Listing
+told b m = toldIn (indexIn m) (view b)
 
 -- 3, 4, 5 and 14 hang on no name and no scale: what is refused so is refused of any book
 unfoldable pub RefusedAnyway : Write → List ℕ → Write → Type 0

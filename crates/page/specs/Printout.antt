@@ -8,13 +8,13 @@ use Rattle.wire.specs.Reading.{Read}
 use Rattle.wire.specs.Writing.{Write}
 use Rattle.wire.specs.Message.{typeOf}
 use Rattle.wire.specs.declared.Message.{Message}
-use Rattle.book.specs.State.{view, symbolIn}
-use Rattle.book.specs.Registering.{toldOf}
+use Rattle.book.specs.State.{view}
+use Rattle.book.specs.Registering.{toldIn}
 use Rattle.book.specs.Quote.{quoteOf}
 use Rattle.book.specs.declared.Book.{Book}
-use Rattle.book.specs.declared.quote.Level.{Level}
+use Rattle.orders.specs.declared.levels.Level.{Level}
 use Rattle.book.specs.declared.quote.Quote.{Quote}
-use Rattle.page.specs.Columns.{Column, number, price, bytes, rendered}
+use Rattle.columns.specs.Columns.{Column, number, price, bytes, rendered}
 use Rattle.page.specs.Printing.{hasNoLine, laid, lineOf, told}
 
 -- a letter that tells what a line is
@@ -77,4 +77,4 @@ quoteText scale x = rendered (letterQ ∷ quoteColumns (eqb (x .answer) 0) scale
 
 -- of a book's symbol
 abbrev pub quoteTextOf : Book → ℕ → List ℕ
-quoteTextOf b index = quoteText (toldOf (symbolIn index (view b)) .scale) (quoteOf index (view b))
+quoteTextOf b index = quoteText (toldIn index (view b) .scale) (quoteOf index (view b))

@@ -4,13 +4,11 @@
 mod lines;
 mod printing;
 mod printout;
-mod text;
 
 pub use printing::line;
 pub use printout::end_text;
 pub use printout::passed_text;
 pub use printout::quote_text;
-pub use text::ROOM;
 ghost use mathlib.Core.Path.{_≡_};
 ghost use Rattle.wire.specs.Outcome.{numberOf};
 ghost use Rattle.wire.specs.Writing.{countOf};

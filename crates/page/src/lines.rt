@@ -1,27 +1,28 @@
 // The lines: the columns of each type, in document 01's order.
-use crate::text::Line;
-use crate::text::blank;
-use crate::text::bytes_column;
-use crate::text::clock_column;
-use crate::text::number_column;
-use crate::text::price_column;
-use crate::text::push;
-use crate::text::put_number;
-use crate::text::text_column;
-use book::Registered;
+use columns::Line;
+use columns::blank;
+use columns::bytes_column;
+use columns::clock_column;
+use columns::number_column;
+use columns::price_column;
+use columns::push;
+use columns::put_number;
+use columns::text_column;
+use symbols::Listing;
 use wire::Head;
 use wire::Message;
 use wire::PLAIN;
 ghost use mathlib.Core.Path.{_≡_};
-ghost use Rattle.page.specs.Columns.{joined, further, rendered, opening, addColumns, crossColumns, columnsOf};
-ghost use Rattle.page.specs.Held.{held, HoldsText, Adds};
+ghost use Rattle.columns.specs.Columns.{joined, further, rendered};
+ghost use Rattle.page.specs.Columns.{opening, addColumns, crossColumns, columnsOf};
+ghost use Rattle.columns.specs.Held.{held, HoldsText, Adds};
 
 // The firm of an add stands first in its byte array.
 const FIRM: usize = 5;
 
 // The line of a message, to its line feed.
 pub(crate) fn line_of(
-    s: Registered,
+    s: Listing,
     m: Message,
     plain: [u8; PLAIN],
     sequence: u32,
@@ -32,7 +33,7 @@ pub(crate) fn line_of(
     push(columns_of(s, m, plain, sequence, second), b'\n')
 }
 
-fn columns_of(s: Registered, m: Message, plain: [u8; PLAIN], sequence: u32, second: u32) -> Line
+fn columns_of(s: Listing, m: Message, plain: [u8; PLAIN], sequence: u32, second: u32) -> Line
     ensures { λ r. ⌜ HoldsText (joined (columnsOf s m plain sequence second)) r ⌝ }
 {
     match m {
@@ -61,7 +62,7 @@ fn columns_of(s: Registered, m: Message, plain: [u8; PLAIN], sequence: u32, seco
 }
 
 // Every line begins with type, sequence number, time, symbol, symbol number.
-fn opened(number: u64, s: Registered, head: Head, sequence: u32, second: u32) -> Line
+fn opened(number: u64, s: Listing, head: Head, sequence: u32, second: u32) -> Line
     ensures { λ r. ⌜ HoldsText (joined (opening number s head sequence second)) r ⌝ }
 {
     let name = s.name;

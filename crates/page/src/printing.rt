@@ -1,11 +1,11 @@
 // Printing a line into a lent buffer.
 use crate::Printed;
 use crate::lines::line_of;
-use crate::text::Line;
-use crate::text::ROOM;
-use crate::text::count;
 use book::Book;
-use book::Registered;
+use columns::Line;
+use columns::ROOM;
+use columns::count;
+use symbols::Listing;
 use wire::Message;
 use wire::PLAIN;
 ghost use mathlib.Core.Path.{_≡_};
@@ -13,7 +13,7 @@ ghost use mathlib.Core.List.{_++_};
 ghost use Prim.Native.Nat.{_≤_};
 ghost use lib.ListN.{length, take, drop};
 ghost use Rattle.book.specs.State.{Wf};
-ghost use Rattle.page.specs.Held.{held, room};
+ghost use Rattle.columns.specs.Held.{held, room};
 ghost use Rattle.page.specs.Printing.{printed, hasNoLine, laid, lineOf, RefusedAnyway, told};
 
 // The last second of a day.
@@ -38,7 +38,7 @@ pub fn line(
 
 // The same, by what is told of the message's symbol: 3, 4, 5, 14, 15.
 fn line_told(
-    s: Registered,
+    s: Listing,
     m: Message,
     plain: [u8; PLAIN],
     sequence: u32,
@@ -76,7 +76,7 @@ pub(crate) fn has_no_line(number: u16) -> bool
 pub(crate) fn emit(l: Line, out: &mut [u8]) -> Printed
     ensures { λ r. ⌜ printed r (now (out .exit)) ≡ laid (held l) (now (out .entry)) ⌝ }
 {
-    let bytes = l.bytes;
+    let bytes = columns::bytes(l);
     let n = count(l);
     if out.len() < n {
         return Printed::NoRoom;

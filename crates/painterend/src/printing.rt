@@ -1,11 +1,11 @@
 // Printing on standard output. Each function answers whether all of it could be written.
 use book::Book;
+use columns::ROOM;
 use libc::STDOUT_FILENO;
 use page::Printed;
-use page::ROOM;
 ghost use mathlib.Core.Path.{_≡_};
 ghost use lib.ListN.{length};
-ghost use Rattle.page.specs.Held.{room};
+ghost use Rattle.columns.specs.Held.{room};
 
 // The local second of the day that every line carries.
 const SECOND: u32 = 34200;

@@ -8,7 +8,7 @@ use lib.Dec.{ltb}
 use lib.ListN.{length, getD}
 use borrow.Author.Tests.{ltb-true, ltb-false}
 use Rattle.wire.specs.Bytes.{valueAt}
-use Rattle.wire.specs.Reading.{msgSize}
+use Rattle.wire.specs.Reading.{leastSize, msgSize}
 use Rattle.wire.specs.RoundTrip.{Bytes}
 use Rattle.wire.proofs.Cases.{reach-small, reach-size}
 use Rattle.wire.proofs.Numbers.{value-empty, value-before}
@@ -26,10 +26,10 @@ module _ (s : List ℕ) (bytes : Bytes s) (full : partRoom ≤ length s) where
 
   -- a full part that ends in the middle of a message, or at its end, has one before it
   pub full-part-moves : walkOf s 0 .answer ≡ 1 → 0 < walkOf s 0 .at
-  full-part-moves one = go (ltb (msgSize s) 4) refl
+  full-part-moves one = go (ltb (msgSize s) leastSize) refl
     where
-      go : (small : Bool) → ltb (msgSize s) 4 ≡ small → 0 < walkOf s 0 .at
-      go true e = absurd (omega (arith, one, ap (λ (w : Walk). w .answer) (walk-stops s 2 (reach-small s (omega (arith, full)) (ltb-true (msgSize s) 4 e)))))
+      go : (small : Bool) → ltb (msgSize s) leastSize ≡ small → 0 < walkOf s 0 .at
+      go true e = absurd (omega (arith, one, ap (λ (w : Walk). w .answer) (walk-stops s 2 (reach-small s (omega (arith, full)) (ltb-true (msgSize s) leastSize e)))))
       go false e =
-          let least = ltb-false (msgSize s) 4 e in
+          let least = ltb-false (msgSize s) leastSize e in
           omega (arith, least, ap (λ (w : Walk). w .at) (walk-goes s (msgSize s) (reach-size s (omega (arith, full)) least (omega (arith, full, size-fits)))))

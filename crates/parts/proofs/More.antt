@@ -11,26 +11,26 @@ use lib.Seq.{take-append-le}
 use borrow.Author.Tests.{ltb-true, ltb-false}
 use Rattle.wire.specs.Bytes.{value}
 use Rattle.wire.specs.Outcome.{refused}
-use Rattle.wire.specs.Reading.{msgSize, reachBy, reachOf}
+use Rattle.wire.specs.Reading.{leastSize, msgSize, reachBy, reachOf}
 use Rattle.wire.proofs.Cases.{done-is-not-refused, reach-small}
 
 -- ---- why a message is not reached: too few bytes, or a Msg Size below 4
 pub record Small (s : List ℕ) (a : ℕ) : Type 0 where
   pub two : a ≡ 2
-  pub there : 4 ≤ length s
-  pub below : msgSize s < 4
+  pub there : leastSize ≤ length s
+  pub below : msgSize s < leastSize
 
-unreached-by : (s : List ℕ) (a : ℕ) (short below beyond : Bool) → ltb (length s) 4 ≡ short → ltb (msgSize s) 4 ≡ below →
+unreached-by : (s : List ℕ) (a : ℕ) (short below beyond : Bool) → ltb (length s) leastSize ≡ short → ltb (msgSize s) leastSize ≡ below →
     reachBy short below beyond (msgSize s) ≡ refused a → (a ≡ 1) ⊎ Small s a
 unfolding reachBy
 unreached-by s a true below beyond p q e = inl (cc)
-unreached-by s a false true beyond p q e = inr (record { two = cc; there = omega (arith, ltb-false (length s) 4 p); below = ltb-true (msgSize s) 4 q })
+unreached-by s a false true beyond p q e = inr (record { two = cc; there = omega (arith, ltb-false (length s) leastSize p); below = ltb-true (msgSize s) leastSize q })
 unreached-by s a false false true p q e = inl (cc)
 unreached-by s a false false false p q e = absurd (done-is-not-refused (sym e))
 
 pub unreached : (s : List ℕ) (a : ℕ) → reachOf s ≡ refused a → (a ≡ 1) ⊎ Small s a
 unfolding reachOf
-unreached s a e = unreached-by s a (ltb (length s) 4) (ltb (msgSize s) 4) (ltb (length s) (msgSize s)) refl refl e
+unreached s a e = unreached-by s a (ltb (length s) leastSize) (ltb (msgSize s) leastSize) (ltb (length s) (msgSize s)) refl refl e
 
 -- ---- with more bytes behind
 module _ (s t : List ℕ) where

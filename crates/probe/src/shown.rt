@@ -1,6 +1,6 @@
 // How answers are shown: a letter, then each value after a comma.
-use book::Level;
 use libc::STDOUT_FILENO;
+use orders::Level;
 
 pub(crate) fn letter(b: u8) {
     io::write_all(STDOUT_FILENO, &[b]);

@@ -11,7 +11,7 @@ use Rattle.wire.specs.Outcome.{Outcome, done, refused}
 use Rattle.wire.specs.Table.{Row, table, layoutOf, find, shapeOf}
 use Rattle.wire.specs.Fields.{fieldsAt, faultBy, faultOf}
 use Rattle.wire.specs.Message.{messageOf, typeOf}
-use Rattle.wire.specs.Reading.{msgSize, msgType, reachBy, reachOf, readBy, readBody, readSized, readShape, readTyped, readReached, readOf}
+use Rattle.wire.specs.Reading.{leastSize, msgSize, msgType, reachBy, reachOf, readBy, readBody, readSized, readShape, readTyped, readReached, readOf}
 use Rattle.wire.specs.declared.Message.{Message}
 use Rattle.wire.proofs.Cases.{done-is-not-refused}
 
@@ -61,7 +61,7 @@ module _ (s : List ℕ) where
 
   pub read-tells : Tells (msgType s) (readOf s .outcome)
   unfolding readOf reachOf
-  read-tells = by-reach (ltb (length s) 4) (ltb (msgSize s) 4) (ltb (length s) (msgSize s))
+  read-tells = by-reach (ltb (length s) leastSize) (ltb (msgSize s) leastSize) (ltb (length s) (msgSize s))
 
   -- a stop is answered 1 or 2
   reach-stops : (short below beyond : Bool) (a : ℕ) → reachBy short below beyond (msgSize s) ≡ refused a → (1 ≤ a) × (a ≤ 2)
@@ -73,4 +73,4 @@ module _ (s : List ℕ) where
 
   pub reach-refuses : (a : ℕ) → reachOf s ≡ refused a → (1 ≤ a) × (a ≤ 2)
   unfolding reachOf
-  reach-refuses = reach-stops (ltb (length s) 4) (ltb (msgSize s) 4) (ltb (length s) (msgSize s))
+  reach-refuses = reach-stops (ltb (length s) leastSize) (ltb (msgSize s) leastSize) (ltb (length s) (msgSize s))

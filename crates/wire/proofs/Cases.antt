@@ -18,7 +18,7 @@ use Rattle.wire.specs.Table.{shapeOf}
 use Rattle.wire.specs.Fields.{fieldsAt, faultOf}
 use Rattle.wire.specs.Message.{messageOf, fieldsOf, typeOf}
 use Rattle.wire.specs.Reading as reading
-use Rattle.wire.specs.Reading.{msgSize, msgType, reachBy, reachOf, readBy, readBody, readSized, readShape, readTyped, readReached, readOf}
+use Rattle.wire.specs.Reading.{leastSize, msgSize, msgType, reachBy, reachOf, readBy, readBody, readSized, readShape, readTyped, readReached, readOf}
 use Rattle.wire.specs.Writing as writing
 use Rattle.wire.specs.Writing.{imageOf, writeSized, writeBy, writeShape, writeOf}
 
@@ -28,29 +28,29 @@ done-is-not-refused e = let z : _≡_ {A = ℕ} 0 1 = cc in omega arith
 
 -- ---- how far a message reaches
 module _ (s : List ℕ) where
-  pub reach-short : length s < 4 → reachOf s ≡ refused 1
+  pub reach-short : length s < leastSize → reachOf s ≡ refused 1
   unfolding reachOf reachBy
   reach-short h = rw (lt-ltb _ _ h)
 
-  pub reach-small : 4 ≤ length s → msgSize s < 4 → reachOf s ≡ refused 2
+  pub reach-small : leastSize ≤ length s → msgSize s < leastSize → reachOf s ≡ refused 2
   unfolding reachOf reachBy
   reach-small h k = rw (le-ltb _ _ h, lt-ltb _ _ k)
 
-  pub reach-beyond : 4 ≤ length s → 4 ≤ msgSize s → length s < msgSize s → reachOf s ≡ refused 1
+  pub reach-beyond : leastSize ≤ length s → leastSize ≤ msgSize s → length s < msgSize s → reachOf s ≡ refused 1
   unfolding reachOf reachBy
   reach-beyond h k m = rw (le-ltb _ _ h, le-ltb _ _ k, lt-ltb _ _ m)
 
-  pub reach-size : 4 ≤ length s → 4 ≤ msgSize s → msgSize s ≤ length s → reachOf s ≡ done (msgSize s)
+  pub reach-size : leastSize ≤ length s → leastSize ≤ msgSize s → msgSize s ≤ length s → reachOf s ≡ done (msgSize s)
   unfolding reachOf reachBy
   reach-size h k m = rw (le-ltb _ _ h, le-ltb _ _ k, le-ltb _ _ m)
 
 -- a message that is reached has its Msg Size, four bytes or more, all of them there
 pub record Reaches (s : List ℕ) (n : ℕ) : Type 0 where
   pub size : msgSize s ≡ n
-  pub least : 4 ≤ n
+  pub least : leastSize ≤ n
   pub there : n ≤ length s
 
-reached-by : (s : List ℕ) (n : ℕ) (short below beyond : Bool) → ltb (msgSize s) 4 ≡ below → ltb (length s) (msgSize s) ≡ beyond →
+reached-by : (s : List ℕ) (n : ℕ) (short below beyond : Bool) → ltb (msgSize s) leastSize ≡ below → ltb (length s) (msgSize s) ≡ beyond →
     reachBy short below beyond (msgSize s) ≡ done n → Reaches s n
 unfolding reachBy
 reached-by s n true below beyond p q e = absurd (done-is-not-refused e)
@@ -58,11 +58,11 @@ reached-by s n false true beyond p q e = absurd (done-is-not-refused e)
 reached-by s n false false true p q e = absurd (done-is-not-refused e)
 reached-by s n false false false p q e =
     let same : msgSize s ≡ n = cc in
-    record { size = same; least = omega (arith, ltb-false (msgSize s) 4 p); there = omega (arith, ltb-false (length s) (msgSize s) q) }
+    record { size = same; least = omega (arith, ltb-false (msgSize s) leastSize p); there = omega (arith, ltb-false (length s) (msgSize s) q) }
 
 pub reached : (s : List ℕ) (n : ℕ) → reachOf s ≡ done n → Reaches s n
 unfolding reachOf
-reached s n e = reached-by s n (ltb (length s) 4) (ltb (msgSize s) 4) (ltb (length s) (msgSize s)) refl refl e
+reached s n e = reached-by s n (ltb (length s) leastSize) (ltb (msgSize s) leastSize) (ltb (length s) (msgSize s)) refl refl e
 
 -- its own bytes have that Msg Size, and with more bytes behind it is the same message
 pub own-size : (s : List ℕ) (n : ℕ) → reachOf s ≡ done n → msgSize (take n s) ≡ n

@@ -2,9 +2,10 @@
 use mathlib.Core.Path.{sym, subst}
 use borrow.Author.Needs.{needs}
 use Rattle.wire.specs.declared.Message.{Message}
-use Rattle.page.specs.Columns.{addColumns, crossColumns, joined, columnsOf}
-use Rattle.page.specs.Held.{HoldsText}
-use Rattle.page.proofs.Holding.{holds-nothing}
+use Rattle.columns.specs.Columns.{joined}
+use Rattle.page.specs.Columns.{addColumns, crossColumns, columnsOf}
+use Rattle.columns.specs.Held.{HoldsText}
+use Rattle.columns.proofs.Holding.{holds-nothing}
 use Rattle.page.proofs.Columns.{opening-then, no-columns}
 use Rattle.page.proofs.lines.columns_of.Statement.{statement}
 use Rattle.page.proofs.lines.columns_of.Tie as tie

@@ -1,7 +1,7 @@
 -- The columns and the line feed are all held, since a line has room (`line-has-room`).
 use borrow.Author.Needs.{needs}
-use Rattle.page.specs.Columns.{rendered}
-use Rattle.page.proofs.Holding.{holds-then, held-all}
+use Rattle.columns.specs.Columns.{rendered}
+use Rattle.columns.proofs.Holding.{holds-then, held-all}
 use Rattle.page.proofs.Lengths.{line-has-room}
 use Rattle.page.proofs.lines.line_of.Statement.{statement}
 use Rattle.page.proofs.lines.line_of.Tie as tie

@@ -1,6 +1,6 @@
 -- From a line that holds nothing, each call adds one column of those that every line begins with.
 use borrow.Author.Needs.{needs}
-use Rattle.page.proofs.Holding.{adds-then, adds-last, holds-first}
+use Rattle.columns.proofs.Holding.{adds-then, adds-last, holds-first}
 use Rattle.page.proofs.lines.opened.Statement.{statement}
 use Rattle.page.proofs.lines.opened.Tie as tie
 

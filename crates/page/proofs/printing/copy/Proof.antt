@@ -6,7 +6,7 @@ use native.Mathlib.Omega.{arith}
 use lib.ListN.{length, take, drop, length-set}
 use denote.Ref.{now}
 use borrow.Author.Needs.{needs}
-use Rattle.page.specs.Held.{room}
+use Rattle.columns.specs.Held.{room}
 use Rattle.page.proofs.Copying.{copy-more}
 use Rattle.page.proofs.printing.copy.Statement.{statement}
 use Rattle.page.proofs.printing.copy.Tie as tie

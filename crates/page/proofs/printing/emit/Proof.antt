@@ -1,14 +1,18 @@
--- By the room: each case is one law of laying a line.
+-- By the room: each case is one law of laying a line, whose bytes begin with what it holds.
 use mathlib.Core.Path.{_≡_, sym, _∙_}
 use native.Mathlib.Omega.{arith}
-use lib.ListN.{length, length-take}
+use lib.ListN.{length}
 use denote.Ref.{now}
 use borrow.Author.Needs.{needs}
 use Rattle.wire.specs.Outcome.{done}
-use Rattle.page.specs.Held.{room, held}
-use Rattle.page.proofs.Cases.{laid-short, laid-held}
+use Rattle.columns.specs.Held.{room, held}
+use Rattle.columns.proofs.Holding.{within-its-bytes}
+use Rattle.page.proofs.Cases.{laid-short, laid-copied}
 use Rattle.page.proofs.printing.emit.Statement.{statement}
 use Rattle.page.proofs.printing.emit.Tie as tie
+
+bytes-requires : tie.Need-bytes-requires
+bytes-requires c κs = search needs
 
 count-requires : tie.Need-count-requires
 count-requires c κs = search needs
@@ -20,9 +24,9 @@ returns c =
 
 copy-requires : tie.Need-copy-requires
 copy-requires c κs =
-    let l = c .before .before .before .before .before .args .l in
-    let long : length (l .bytes) ≡ room = search needs in
-    (omega (arith, c .before .before .count .ensures, length-take (l .len) (l .bytes), long), c .before .if1 .left)
+    let b = c .before .before .before .bytes in
+    let long : length (b .result) ≡ room = search needs in
+    (omega (arith, c .before .before .count .ensures, within-its-bytes (b .ensures), long), c .before .if1 .left)
 
 same-length : tie.Need-same-length
 same-length c = search needs
@@ -32,7 +36,7 @@ returns-2 c =
     let k = c .before .before .before .before .before in
     let a = k .before .before .before .args in
     (λ i. record { outcome = done (k .count .result); out = (c .before .before .copy .ensures) i })
-    ∙ laid-held (a .l .len) _ (a .l .bytes) (now (a .out)) (k .count .ensures) (c .before .before .before .before .if1 .left)
+    ∙ laid-copied (held (a .l)) _ (now (a .out)) _ (k .count .ensures) (k .before .bytes .ensures .shows) (c .before .before .before .before .if1 .left)
 
 pub emit-spec : {M : Type 1} → statement M
-emit-spec = tie.close (tie.spec count-requires returns copy-requires same-length returns-2)
+emit-spec = tie.close (tie.spec bytes-requires count-requires returns copy-requires same-length returns-2)

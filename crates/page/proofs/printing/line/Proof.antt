@@ -2,9 +2,9 @@
 use mathlib.Core.Path.{_≡_, ap, _∙_}
 use denote.Ref.{now}
 use borrow.Author.Needs.{needs}
-use Rattle.book.specs.State.{view, symbolIn}
-use Rattle.book.specs.Registering.{toldOf}
-use Rattle.book.specs.declared.symbols.Registered.{Registered}
+use Rattle.book.specs.State.{view}
+use Rattle.book.specs.Registering.{toldIn}
+use Rattle.symbols.specs.declared.registering.Listing.{Listing}
 use Rattle.page.specs.Printing.{lineOf, RefusedAnyway, told}
 use Rattle.page.proofs.Cases.{line-refuses}
 use Rattle.page.proofs.printing.line.Statement.{statement}
@@ -23,8 +23,8 @@ same-length : tie.Need-same-length
 same-length c = search needs
 
 -- what the book was asked, and what it told, by its view
-asked : (k : tie.After-symbol) → toldOf (symbolIn (k .before .index-of .result) (view (k .before .before .before .args .book))) ≡ told (k .before .before .before .args .book) (k .before .before .before .args .m)
-asked k = ap (λ i. toldOf (symbolIn i (view (k .before .before .before .args .book)))) (k .before .index-of .ensures)
+asked : (k : tie.After-symbol) → toldIn (k .before .index-of .result) (view (k .before .before .before .args .book)) ≡ told (k .before .before .before .args .book) (k .before .before .before .args .m)
+asked k = ap (λ i. toldIn i (view (k .before .before .before .args .book))) (k .before .index-of .ensures)
 
 returns : tie.Need-returns
 unfolding RefusedAnyway
@@ -32,8 +32,8 @@ returns c =
     let k = c .before .before .before .before in
     let a = k .before .before .before .args in
     let line = c .before .before .line-told .ensures in (
-      λ w. line ∙ ap (λ (s : Registered). lineOf s (a .m) (a .plain) (a .sequence) (a .second) (now (a .out))) (k .symbol .ensures .obeys w ∙ asked k),
-      λ n h e. line ∙ line-refuses (k .symbol .result) (told (a .book) (a .m)) (a .m) (a .plain) (a .sequence) (a .second) (now (a .out)) (k .symbol .ensures .answer ∙ ap (λ (s : Registered). s .answer) (asked k)) n h e,
+      λ w. line ∙ ap (λ (s : Listing). lineOf s (a .m) (a .plain) (a .sequence) (a .second) (now (a .out))) (k .symbol .ensures .obeys w ∙ asked k),
+      λ n h e. line ∙ line-refuses (k .symbol .result) (told (a .book) (a .m)) (a .m) (a .plain) (a .sequence) (a .second) (now (a .out)) (k .symbol .ensures .answer ∙ ap (λ (s : Listing). s .answer) (asked k)) n h e,
     )
 
 pub line-spec : {M : Type 1} → statement M

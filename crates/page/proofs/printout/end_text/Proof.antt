@@ -3,10 +3,10 @@ use mathlib.Core.Path.{ap, _∙_}
 use mathlib.Core.List.{List}
 use Prim.Native.Nat.{ℕ}
 use denote.Ref.{now}
-use Rattle.page.specs.Columns.{rendered}
+use Rattle.columns.specs.Columns.{rendered}
 use Rattle.page.specs.Printing.{laid}
 use Rattle.page.specs.Printout.{endText}
-use Rattle.page.proofs.Holding.{adds-then, adds-last, holds-first, holds-then, held-all}
+use Rattle.columns.proofs.Holding.{adds-then, adds-last, holds-first, holds-then, held-all}
 use Rattle.page.proofs.Printouts.{end-has-room}
 use borrow.Author.Needs.{needs}
 use Rattle.page.proofs.printout.end_text.Statement.{statement}

@@ -1,12 +1,12 @@
 -- By the level: two empty columns, or a price and a number.
 use mathlib.Core.Path.{_≡_, sym, subst}
 use Prim.Native.Nat.{ℕ}
-use Rattle.book.specs.declared.quote.Level.{Level}
-use Rattle.page.specs.Columns.{further}
-use Rattle.page.specs.Held.{Adds}
-use Rattle.page.specs.declared.text.Line.{Line}
+use Rattle.orders.specs.declared.levels.Level.{Level}
+use Rattle.columns.specs.Columns.{further}
+use Rattle.columns.specs.Held.{Adds}
+use Rattle.columns.specs.declared.Line.{Line}
 use Rattle.page.specs.Printout.{levelColumns}
-use Rattle.page.proofs.Holding.{adds-then, adds-last}
+use Rattle.columns.proofs.Holding.{adds-then, adds-last}
 use borrow.Author.Needs.{needs}
 use Rattle.page.proofs.printout.level_columns.Statement.{statement}
 use Rattle.page.proofs.printout.level_columns.Tie as tie

@@ -1,12 +1,12 @@
 -- By the answer: the number that refuses the quote, or the columns of both levels; either has room.
-use Rattle.page.specs.Columns.{rendered, further}
+use Rattle.columns.specs.Columns.{rendered, further}
 use Rattle.page.specs.Printout.{levelColumns}
 use mathlib.Core.Path.{sym, _∙_, subst}
 use mathlib.Core.List.{List, _++_}
 use Prim.Native.Nat.{ℕ}
-use Rattle.page.specs.Held.{Adds}
+use Rattle.columns.specs.Held.{Adds}
 use Rattle.page.proofs.Columns.{further-append}
-use Rattle.page.proofs.Holding.{adds-then, adds-last, holds-first, holds-then, held-all}
+use Rattle.columns.proofs.Holding.{adds-then, adds-last, holds-first, holds-then, held-all}
 use Rattle.page.proofs.Printouts.{quote-shown, quote-refused, shown-has-room, refused-has-room}
 use borrow.Author.Needs.{needs}
 use Rattle.page.proofs.printout.quote_line.Statement.{statement}

@@ -1,6 +1,6 @@
 -- The three columns and the line feed are all held, since a refusal has room.
-use Rattle.page.specs.Columns.{rendered}
-use Rattle.page.proofs.Holding.{adds-then, adds-last, holds-first, holds-then, held-all}
+use Rattle.columns.specs.Columns.{rendered}
+use Rattle.columns.proofs.Holding.{adds-then, adds-last, holds-first, holds-then, held-all}
 use Rattle.page.proofs.Printouts.{refusal-has-room}
 use borrow.Author.Needs.{needs}
 use Rattle.page.proofs.printout.refusal_line.Statement.{statement}

@@ -1,0 +1,70 @@
+-- The digits of a number are those of its tenth and one more, so a number, and a price by its units and decimals, is built from the front.
+use mathlib.Core.Path.{_≡_, refl, ap, sym, _∙_}
+use mathlib.Core.List.{[], _∷_, _++_, append-nil}
+use mathlib.Core.Bool.{Bool, true, false}
+use Prim.Native.Nat.{ℕ, zero, suc, _-_, _/_, _%_, _^_, _≤_, _<_}
+use native.Mathlib.Nat.{pow-suc, pow-succ', div-one, div-div-eq-div-mul, div-lt-iff-lt-mul}
+use native.Mathlib.Numerals.{sub-one}
+use native.Mathlib.Omega.{arith}
+use borrow.Author.Tests.{lt-ltb, le-ltb, ltb-true, ltb-false}
+use lib.Dec.{ltb}
+use Rattle.columns.specs.Text.{point, digit, fixed, digitsBy, digits, priced, decimals}
+
+-- ---- a fixed count of digits
+pub fixed-none : (w n : ℕ) → w ≡ 0 → fixed w n ≡ []
+unfolding fixed
+fixed-none w n e = rw e refl
+
+pub fixed-more : (w n : ℕ) → (w ≡ 0 → ⊥) → fixed w n ≡ fixed (w - 1) (n / 10) ++ (digit (n % 10) ∷ [])
+unfolding fixed
+fixed-more zero n h = absurd (h refl)
+fixed-more (suc w) n h = ap (λ k. fixed k (n / 10) ++ (digit (n % 10) ∷ [])) (sym (sub-one (suc w)))
+
+-- ---- no leading zeros
+pub by-one : (f n : ℕ) → n < 10 → digitsBy (suc f) n ≡ digit n ∷ []
+unfolding digitsBy
+by-one f n h = rw (lt-ltb n 10 h) refl
+
+pub by-more : (f n : ℕ) → 10 ≤ n → digitsBy (suc f) n ≡ digitsBy f (n / 10) ++ (digit (n % 10) ∷ [])
+unfolding digitsBy
+by-more f n h = rw (le-ltb n 10 h) refl
+
+pub fewer-digits : (f n : ℕ) → n < 10 ^ suc f → n / 10 < 10 ^ f
+fewer-digits f n h = div-lt-iff-lt-mul {k = 10} {x = n} {y = 10 ^ f} (omega arith) .1 (rw pow-suc at h)
+
+-- a digit more than enough changes nothing: by whether n is one digit
+enough-step : (f n : ℕ) → (digitsBy (suc f) (n / 10) ≡ digitsBy (suc (suc f)) (n / 10)) → (b : Bool) → ltb n 10 ≡ b →
+    digitsBy (suc (suc f)) n ≡ digitsBy (suc (suc (suc f))) n
+enough-step f n ih true e = by-one (suc f) n (ltb-true n 10 e) ∙ sym (by-one (suc (suc f)) n (ltb-true n 10 e))
+enough-step f n ih false e =
+    by-more (suc f) n (ltb-false n 10 e) ∙ ap (λ l. l ++ (digit (n % 10) ∷ [])) ih ∙ sym (by-more (suc (suc f)) n (ltb-false n 10 e))
+
+enough : (f n : ℕ) → n < 10 ^ suc f → digitsBy (suc f) n ≡ digitsBy (suc (suc f)) n
+enough zero n h = by-one 0 n h ∙ sym (by-one 1 n h)
+enough (suc f) n h = enough-step f n (enough f (n / 10) (fewer-digits (suc f) n h)) (ltb n 10) refl
+
+pub digits-one : (n : ℕ) → n < 10 → digits n ≡ digit n ∷ []
+unfolding digits
+digits-one n h = by-one 19 n h
+
+pub digits-more : (n : ℕ) → 10 ≤ n → n < 2 ^ 64 → digits n ≡ digits (n / 10) ++ (digit (n % 10) ∷ [])
+unfolding digits
+digits-more n h k = by-more 19 n h ∙ ap (λ l. l ++ (digit (n % 10) ∷ [])) (enough 18 (n / 10) (omega arith))
+
+-- ---- a price
+pub units-none : (p s : ℕ) → s ≡ 0 → p ≡ p / 10 ^ s
+units-none p s e = rw e (sym (div-one p))
+
+pub units-more : (p s r : ℕ) → (s ≡ 0 → ⊥) → r ≡ p / 10 / 10 ^ (s - 1) → r ≡ p / 10 ^ s
+units-more p zero r h e = absurd (h refl)
+units-more p (suc s) r h e =
+    e ∙ ap (λ k. p / 10 / 10 ^ k) (sub-one (suc s)) ∙ div-div-eq-div-mul p 10 (10 ^ s) ∙ ap (λ k. p / k) (sym (pow-succ' 10 s))
+
+pub priced-no-point : (s p r : ℕ) → s ≡ 0 → r ≡ p / 10 ^ s → priced s p ≡ digits r
+unfolding priced
+priced-no-point s p r h e = ap (λ k. digits (p / 10 ^ s) ++ decimals k p) h ∙ append-nil _ ∙ ap digits (sym e)
+
+pub priced-point : (s p r : ℕ) → (s ≡ 0 → ⊥) → r ≡ p / 10 ^ s → priced s p ≡ digits r ++ (point ∷ fixed s p)
+unfolding priced
+priced-point zero p r h e = absurd (h refl)
+priced-point (suc s) p r h e = ap (λ k. digits k ++ (point ∷ fixed (suc s) p)) (sym e)

@@ -1,0 +1,4 @@
+pub mod Digits
+pub mod Holding
+pub mod Lengths
+pub mod OneOutcome

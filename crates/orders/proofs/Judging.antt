@@ -1,0 +1,126 @@
+-- Each verdict on the orders is the rule's: the search says which clause of the rule it is, and the store that goes with it is one of the five changes of a shelf.
+use mathlib.Core.Bool.{Bool, true, false, Bool·beq}
+use mathlib.Core.List.{List}
+use mathlib.Core.Option.{none}
+use mathlib.Core.Path.{_≡_, refl}
+use Prim.Native.Nat.{ℕ, _<_, _≤_}
+use native.Mathlib.Omega.{arith}
+use borrow.Author.Tests.{lt-ltb, le-ltb, eq-eqb, ne-eqb}
+use lib.ListN.{getD, set}
+use Rattle.places.specs.Places.{look, inOrder, insert}
+use Rattle.places.proofs.Living.{Lies, look-none}
+use Rattle.places.proofs.Landing.{lands-nowhere, missing, found, crowded, roomy, lands-new, lands-out, lands-changed, lands-instead, absent-after, same-after, still-there}
+use Rattle.orders.specs.State.{ordersEach, noOrder, orderNumber, orderLive}
+use Rattle.orders.specs.Rules.{applyTo, orderOf, repriced, less}
+use Rattle.orders.specs.Deciding.{OrderShelf, OrderAt, OrderRoom, liveOrders, Decides, lands, misfits, crowds}
+use Rattle.orders.specs.declared.Order.{Order}
+use Rattle.orders.specs.declared.rules.Verdict.{Verdict}
+use Rattle.orders.specs.declared.Change.{Change}
+
+module _ (l : List Order) (w : OrderShelf l) where
+  missed : (n i : ℕ) → OrderAt n l i → ordersEach ≤ i → look orderNumber n (liveOrders l) ≡ none
+  missed = missing orderNumber orderLive noOrder refl ordersEach l w
+
+  hit : (n i : ℕ) → OrderAt n l i → i < ordersEach → Lies orderNumber orderLive noOrder refl n l i
+  hit = found orderNumber orderLive noOrder refl ordersEach l w
+
+  -- ---- add
+  module _ (n : ℕ) (buy : Bool) (p v i j : ℕ) (at : OrderAt n l i) (room : OrderRoom l j) where
+    pub add-twice : i < ordersEach → Decides l Verdict.Misfit (applyTo (liveOrders l) (Change.Add n buy p v))
+    unfolding applyTo
+    add-twice h = rw (hit n i at h .looked) misfits
+
+    pub add-crowded : ordersEach ≤ i → ordersEach ≤ j → Decides l Verdict.NoRoom (applyTo (liveOrders l) (Change.Add n buy p v))
+    unfolding applyTo
+    add-crowded h g = rw (missed n i at h, crowded orderNumber orderLive noOrder refl ordersEach l w j room g) crowds
+
+    pub add-fits : ordersEach ≤ i → j < ordersEach → Decides l (Verdict.Fits j (orderOf n buy p v)) (applyTo (liveOrders l) (Change.Add n buy p v))
+    unfolding applyTo
+    add-fits h g =
+        rw (missed n i at h, lt-ltb _ _ (roomy orderNumber orderLive noOrder refl ordersEach l w j room g))
+        (lands (lands-new orderNumber orderLive noOrder refl ordersEach l w (orderOf n buy p v) i j refl at h room g))
+
+  -- ---- the others find their order at i, or nowhere
+  module _ (n i : ℕ) (at : OrderAt n l i) where
+    module _ (h : ordersEach ≤ i) where
+      pub modify-missing : (buy : Bool) (p v : ℕ) → Decides l Verdict.Misfit (applyTo (liveOrders l) (Change.Modify n buy p v))
+      unfolding applyTo
+      modify-missing buy p v = rw (missed n i at h) misfits
+
+      pub delete-missing : Decides l Verdict.Misfit (applyTo (liveOrders l) (Change.Delete n))
+      unfolding applyTo
+      delete-missing = rw (missed n i at h) misfits
+
+      pub execute-missing : (v : ℕ) → Decides l Verdict.Misfit (applyTo (liveOrders l) (Change.Execute n v))
+      unfolding applyTo
+      execute-missing v = rw (missed n i at h) misfits
+
+      pub replace-missing : (new : ℕ) (buy : Bool) (p v : ℕ) → Decides l Verdict.Misfit (applyTo (liveOrders l) (Change.Replace n new buy p v))
+      unfolding applyTo
+      replace-missing new buy p v = rw (missed n i at h) misfits
+
+    module _ (h : i < ordersEach) where
+      abbrev x : Order
+      x = getD l i noOrder
+
+      pub modify-other-side : (buy : Bool) (p v : ℕ) → Bool·beq (x .buy) buy ≡ false → Decides l Verdict.Misfit (applyTo (liveOrders l) (Change.Modify n buy p v))
+      unfolding applyTo
+      modify-other-side buy p v t = rw (hit n i at h .looked, t) misfits
+
+      pub modify-fits : (buy : Bool) (p v : ℕ) → Bool·beq (x .buy) buy ≡ true → Decides l (Verdict.Fits i (repriced x p v)) (applyTo (liveOrders l) (Change.Modify n buy p v))
+      unfolding applyTo
+      modify-fits buy p v t =
+          rw (hit n i at h .looked, t)
+          (lands (lands-changed orderNumber orderLive noOrder refl ordersEach l w n i (repriced x p v) at h (hit n i at h .key-is) (hit n i at h .live-is)))
+
+      pub delete-fits : Decides l (Verdict.Fits i noOrder) (applyTo (liveOrders l) (Change.Delete n))
+      unfolding applyTo
+      delete-fits = rw (hit n i at h .looked) (lands (lands-out orderNumber orderLive noOrder refl ordersEach l w n i at h))
+
+      module _ (v : ℕ) where
+        pub execute-over : x .volume < v → Decides l Verdict.Misfit (applyTo (liveOrders l) (Change.Execute n v))
+        unfolding applyTo
+        execute-over g = rw (hit n i at h .looked, lt-ltb _ _ g) misfits
+
+        pub execute-all : x .volume ≡ v → Decides l (Verdict.Fits i noOrder) (applyTo (liveOrders l) (Change.Execute n v))
+        unfolding applyTo
+        execute-all g = rw (hit n i at h .looked, le-ltb (x .volume) v (omega arith), eq-eqb _ _ g) (lands (lands-out orderNumber orderLive noOrder refl ordersEach l w n i at h))
+
+        pub execute-some : v ≤ x .volume → (x .volume ≡ v → ⊥) → Decides l (Verdict.Fits i (less x v)) (applyTo (liveOrders l) (Change.Execute n v))
+        unfolding applyTo
+        execute-some g ne =
+            rw (hit n i at h .looked, le-ltb _ _ g, ne-eqb _ _ ne)
+            (lands (lands-changed orderNumber orderLive noOrder refl ordersEach l w n i (less x v) at h (hit n i at h .key-is) (hit n i at h .live-is)))
+
+      module _ (new : ℕ) (buy : Bool) (p v : ℕ) where
+        pub replace-other-side : Bool·beq (x .buy) buy ≡ false → Decides l Verdict.Misfit (applyTo (liveOrders l) (Change.Replace n new buy p v))
+        unfolding applyTo
+        replace-other-side t = rw (hit n i at h .looked, t) misfits
+
+        module _ (t : Bool·beq (x .buy) buy ≡ true) (j : ℕ) (there : OrderAt new l j) where
+          abbrev o : Order
+          o = orderOf new buy p v
+
+          pub replace-fits : ordersEach ≤ j → Decides l (Verdict.Fits i o) (applyTo (liveOrders l) (Change.Replace n new buy p v))
+          unfolding applyTo
+          replace-fits g =
+              let z = absent-after orderNumber orderLive noOrder refl ordersEach l w n i at h o refl j there g in
+              rw (hit n i at h .looked, t, hit n i at h .removed, look-none orderNumber orderLive new (set l i noOrder) z)
+              (lands {place = i} {o = o} {os = insert orderNumber o (inOrder orderNumber orderLive (set l i noOrder))} (lands-instead orderNumber orderLive noOrder refl ordersEach l w n i at h o refl z))
+
+          pub replace-same : i ≡ j → Decides l (Verdict.Fits i o) (applyTo (liveOrders l) (Change.Replace n new buy p v))
+          unfolding applyTo
+          replace-same e =
+              let z = same-after orderNumber orderLive noOrder refl ordersEach l w n i at h o refl j there e in
+              rw (hit n i at h .looked, t, hit n i at h .removed, look-none orderNumber orderLive new (set l i noOrder) z)
+              (lands {place = i} {o = o} {os = insert orderNumber o (inOrder orderNumber orderLive (set l i noOrder))} (lands-instead orderNumber orderLive noOrder refl ordersEach l w n i at h o refl z))
+
+          pub replace-twice : j < ordersEach → (i ≡ j → ⊥) → Decides l Verdict.Misfit (applyTo (liveOrders l) (Change.Replace n new buy p v))
+          unfolding applyTo
+          replace-twice g ne =
+              rw (hit n i at h .looked, t, hit n i at h .removed, still-there orderNumber orderLive noOrder refl ordersEach l w n i at h o refl j there g ne .looked) misfits
+
+  -- ---- the rest change no order
+  pub nothing-fits : (o : Order) → Decides l (Verdict.Fits ordersEach o) (applyTo (liveOrders l) Change.Nothing)
+  unfolding applyTo
+  nothing-fits o = lands (lands-nowhere orderNumber orderLive noOrder refl ordersEach l w o)

@@ -1,0 +1,7 @@
+pub mod Sizes
+pub mod Judging
+pub mod Storing
+pub mod Quoting
+pub mod Sides
+pub mod Holding
+pub mod OneOutcome

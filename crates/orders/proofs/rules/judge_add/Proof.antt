@@ -1,0 +1,16 @@
+-- Each branch is a clause of the rule of an add.
+use Rattle.orders.proofs.Judging.{add-twice, add-crowded, add-fits}
+use Rattle.orders.proofs.rules.judge_add.Statement.{statement}
+use Rattle.orders.proofs.rules.judge_add.Tie as tie
+
+returns : tie.Need-returns
+returns c l w p f = add-twice l w _ _ _ _ _ _ p f (c .if1 .taken)
+
+returns-2 : tie.Need-returns-2
+returns-2 c l w p f = add-crowded l w _ _ _ _ _ _ p f (c .before .if1 .left) (c .if2 .taken)
+
+returns-3 : tie.Need-returns-3
+returns-3 c l w p f = add-fits l w _ _ _ _ _ _ p f (c .before .if1 .left) (c .if2 .left)
+
+pub judge-add-spec : {M : Type 1} → statement M
+judge-add-spec = tie.close (tie.spec returns returns-2 returns-3)

@@ -1,0 +1,5 @@
+pub mod State
+pub mod Rules
+pub mod Levels
+pub mod Deciding
+pub mod Promises

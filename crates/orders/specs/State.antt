@@ -1,0 +1,36 @@
+-- The live orders of eight symbols: document 01, "The book".
+use mathlib.Core.Bool.{Bool, false}
+use mathlib.Core.List.{List}
+use Prim.Native.Nat.{ℕ, _*_}
+use lib.ListN.{replicate}
+use Rattle.places.specs.Places.{symbols, shelf, onShelf, Singles}
+use Rattle.orders.specs.declared.Order.{Order}
+use Rattle.orders.specs.declared.Orders.{Orders}
+
+-- each symbol's own places
+abbrev pub ordersEach : ℕ
+ordersEach = 64
+
+abbrev pub noOrder : Order
+noOrder = record { live = false; buy = false; number = 0; price = 0; volume = 0 }
+
+abbrev pub orderNumber : Order → ℕ
+orderNumber o = o .number
+
+abbrev pub orderLive : Order → Bool
+orderLive o = o .live
+
+abbrev pub shelfAt : Orders → ℕ → List Order
+shelfAt b k = shelf ordersEach k (b .places)
+
+-- what every promise speaks of: the live orders of the symbol at place k, in the order of their numbers
+unfoldable pub liveAt : Orders → ℕ → List Order
+liveAt b k = onShelf orderNumber orderLive ordersEach (b .places) k
+
+-- what holds of every state: no number is live twice in a symbol
+pub record Wf (b : Orders) : Type 0 where
+  pub singles : Singles orderNumber orderLive ordersEach (b .places)
+
+-- the new orders: every place empty
+abbrev pub noOrders : Orders
+noOrders = record { places = replicate (symbols * ordersEach) noOrder }

@@ -1,0 +1,93 @@
+// The live orders of eight symbols, 64 places each: what a change does to them, and the best of each side.
+//
+// Nothing here knows of messages, of a message's number or of trades. The orders are taken by value and the next ones are handed back.
+mod changes;
+mod levels;
+mod rules;
+mod search;
+mod store;
+
+pub use levels::Level;
+use places::SYMBOLS;
+ghost use mathlib.Core.Path.{_≡_};
+ghost use Rattle.orders.specs.State.{noOrder, noOrders};
+ghost use Rattle.orders.specs.Promises.{fitNumber};
+
+// Each symbol's own places.
+const ORDERS: usize = 64;
+
+// The places of all symbols.
+const PLACES: usize = SYMBOLS * ORDERS;
+
+// A place for an order: empty, or a live one.
+pub struct Order {
+    live: bool,
+    buy: bool,
+    number: u64,
+    price: u32,
+    volume: u32,
+}
+
+pub struct Orders {
+    places: [Order; PLACES],
+}
+
+// What is done to a symbol's orders. An order comes as its number, whether it buys, its price and its volume.
+pub enum Change {
+    Nothing,
+    Add(u64, bool, u32, u32),
+    Modify(u64, bool, u32, u32),
+    Delete(u64),
+    // The order, and the volume that comes off it.
+    Execute(u64, u32),
+    // The old order's number, then the new order.
+    Replace(u64, u64, bool, u32, u32),
+}
+
+// Whether it fits the orders, and whether there is room.
+pub enum Fit {
+    Fits,
+    Misfit,
+    NoRoom,
+}
+
+// The next orders: those that came in, where it doesn't fit.
+pub struct Changed {
+    pub orders: Orders,
+    pub fit: Fit,
+}
+
+impl Orders {
+    // No order is live.
+    pub fn new() -> Orders
+        ensures { λ r. ⌜ r ≡ noOrders ⌝ }
+    {
+        let o = no_order();
+        let places = [o; PLACES];
+        Orders { places }
+    }
+}
+
+// Document 01's number of whether it fits.
+pub fn number_of_fit(f: Fit) -> u8
+    ensures { λ r. ⌜ r ≡ fitNumber f ⌝ }
+{
+    match f {
+        Fit::Fits => 0,
+        Fit::Misfit => 9,
+        Fit::NoRoom => 10,
+    }
+}
+
+// An empty place, all zero.
+fn no_order() -> Order
+    ensures { λ r. ⌜ r ≡ noOrder ⌝ }
+{
+    Order {
+        live: false,
+        buy: false,
+        number: 0,
+        price: 0,
+        volume: 0,
+    }
+}

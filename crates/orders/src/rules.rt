@@ -1,0 +1,154 @@
+// What a change does to a symbol's orders, decided on small values: the place that was found, the order there, the change.
+use crate::Change;
+use crate::ORDERS;
+use crate::Order;
+use crate::no_order;
+ghost use mathlib.Core.Path.{_≡_};
+ghost use mathlib.Core.Bool.{true};
+ghost use mathlib.Core.List.{List};
+ghost use lib.ListN.{getD};
+ghost use Rattle.orders.specs.State.{noOrder};
+ghost use Rattle.orders.specs.Deciding.{OrderShelf, OrderAt, OrderRoom, Decides, liveOrders};
+ghost use Rattle.orders.specs.Rules.{applyTo};
+
+// It fits, and this order goes to this place (ORDERS: to none); or it doesn't fit; or there is no room.
+pub(crate) enum Verdict {
+    Fits { place: usize, order: Order },
+    Misfit,
+    NoRoom,
+}
+
+// An order that is live already doesn't fit; i is where it lies, and j has room.
+pub(crate) fn judge_add(
+    i: usize,
+    j: usize,
+    order: u64,
+    buy: bool,
+    price: u32,
+    volume: u32,
+) -> Verdict
+    ensures { λ r. ⌜ ((l : List Order) → OrderShelf l → OrderAt order l i → OrderRoom l j → Decides l r (applyTo (liveOrders l) (Change.Add order buy price volume))) ⌝ }
+{
+    if i < ORDERS {
+        return Verdict::Misfit;
+    }
+    if ORDERS <= j {
+        return Verdict::NoRoom;
+    }
+    let o = Order {
+        live: true,
+        buy,
+        number: order,
+        price,
+        volume,
+    };
+    Verdict::Fits { place: j, order: o }
+}
+
+pub(crate) fn judge_modify(
+    i: usize,
+    x: Order,
+    order: u64,
+    buy: bool,
+    price: u32,
+    volume: u32,
+) -> Verdict
+    ensures { λ r. ⌜ ((l : List Order) → OrderShelf l → OrderAt order l i → x ≡ getD l i noOrder → Decides l r (applyTo (liveOrders l) (Change.Modify order buy price volume))) ⌝ }
+{
+    if ORDERS <= i {
+        return Verdict::Misfit;
+    }
+    if x.buy == buy {
+        let o = Order {
+            live: x.live,
+            buy: x.buy,
+            number: x.number,
+            price,
+            volume,
+        };
+        return Verdict::Fits { place: i, order: o };
+    }
+    Verdict::Misfit
+}
+
+pub(crate) fn judge_delete(i: usize, order: u64) -> Verdict
+    ensures { λ r. ⌜ ((l : List Order) → OrderShelf l → OrderAt order l i → Decides l r (applyTo (liveOrders l) (Change.Delete order))) ⌝ }
+{
+    if ORDERS <= i {
+        return Verdict::Misfit;
+    }
+    let o = no_order();
+    Verdict::Fits { place: i, order: o }
+}
+
+// What is left stands at the order's own price; where nothing is left, the order is gone.
+pub(crate) fn judge_execute(i: usize, x: Order, order: u64, volume: u32) -> Verdict
+    ensures { λ r. ⌜ ((l : List Order) → OrderShelf l → OrderAt order l i → x ≡ getD l i noOrder → Decides l r (applyTo (liveOrders l) (Change.Execute order volume))) ⌝ }
+{
+    if ORDERS <= i {
+        return Verdict::Misfit;
+    }
+    if x.volume < volume {
+        return Verdict::Misfit;
+    }
+    if x.volume == volume {
+        let gone = no_order();
+        return Verdict::Fits {
+            place: i,
+            order: gone,
+        };
+    }
+    let o = Order {
+        live: x.live,
+        buy: x.buy,
+        number: x.number,
+        price: x.price,
+        volume: x.volume - volume,
+    };
+    Verdict::Fits { place: i, order: o }
+}
+
+// The old order lies at i and goes first, so the new number may lie there too.
+pub(crate) fn judge_replace(
+    i: usize,
+    x: Order,
+    j: usize,
+    old: u64,
+    order: u64,
+    buy: bool,
+    price: u32,
+    volume: u32,
+) -> Verdict
+    ensures { λ r. ⌜ ((l : List Order) → OrderShelf l → OrderAt old l i → OrderAt order l j → x ≡ getD l i noOrder → Decides l r (applyTo (liveOrders l) (Change.Replace old order buy price volume))) ⌝ }
+{
+    if ORDERS <= i {
+        return Verdict::Misfit;
+    }
+    if x.buy == buy {
+        let o = Order {
+            live: true,
+            buy,
+            number: order,
+            price,
+            volume,
+        };
+        if ORDERS <= j {
+            return Verdict::Fits { place: i, order: o };
+        }
+        if i == j {
+            return Verdict::Fits { place: i, order: o };
+        }
+        return Verdict::Misfit;
+    }
+    Verdict::Misfit
+}
+
+pub(crate) fn judge_nothing() -> Verdict
+    ensures { λ r. ⌜ ((l : List Order) → OrderShelf l → Decides l r (applyTo (liveOrders l) Change.Nothing)) ⌝ }
+{
+    let o = no_order();
+    Verdict::Fits {
+        place: ORDERS,
+        order: o,
+    }
+}

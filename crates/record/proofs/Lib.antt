@@ -1,0 +1,5 @@
+pub mod Sizes
+pub mod Recording
+pub mod Storing
+pub mod Holding
+pub mod OneOutcome

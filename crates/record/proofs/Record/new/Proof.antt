@@ -1,0 +1,13 @@
+-- Every place is the one empty place repeated.
+use borrow.Author.Needs.{needs}
+use Rattle.record.proofs.Record.new.Statement.{statement}
+use Rattle.record.proofs.Record.new.Tie as tie
+
+no-trade-requires : tie.Need-no-trade-requires
+no-trade-requires c κs = search needs
+
+returns : tie.Need-returns
+returns c = rw (c .no-trade .ensures)
+
+pub new-spec : {M : Type 1} → statement M
+new-spec = tie.close (tie.spec no-trade-requires returns)

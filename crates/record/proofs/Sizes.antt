@@ -1,0 +1,21 @@
+-- How long the array of places is: owning it tells.
+use mathlib.Core.Path.{_≡_, sym, _∙_}
+use mathlib.Core.List.{List}
+use Prim.Native.Nat.{ℕ, _+_, _*_, _≤_, _<_}
+use lib.ListN.{length, length-map}
+use mir.Val.{Val}
+use denote.Laws.{Is}
+use denote.Struct.Declared.{row}
+use Rattle.places.specs.Places.{symbols}
+use Rattle.places.proofs.EightShelves.{shelf-reach}
+use Rattle.record.specs.State.{tradesEach}
+use Rattle.record.specs.declared.Record.{Record}
+use Rattle.record.proofs.Record.{the-type}
+
+module _ (b : Record) (vs : List Val) (g : Is (row the-type) b vs) where
+  pub places-size : length (b .places) ≡ symbols * tradesEach
+  places-size = sym (length-map (b .places) _) ∙ g .1 .1 .0 .1 .0 .1
+
+  -- so each symbol's shelf lies within it
+  pub trades-reach : (k : ℕ) → k < symbols → k * tradesEach + tradesEach ≤ length (b .places)
+  trades-reach k h = shelf-reach tradesEach k (b .places) places-size h

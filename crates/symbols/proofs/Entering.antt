@@ -1,0 +1,117 @@
+-- Registering refuses in document 01's order; a new symbol takes the first empty place.
+use mathlib.Core.Bool.{Bool, true, false, cond, true≢false}
+use mathlib.Core.List.{List}
+use mathlib.Core.Option.{Option, none, some}
+use mathlib.Core.Path.{_≡_, refl, sym, ap, _∙_}
+use Prim.Native.Nat.{ℕ, _+_, _<_, _≤_}
+use native.Mathlib.Omega.{arith}
+use borrow.Author.Tests.{lt-ltb, le-ltb, ltb-false, eqb-true}
+use lib.Dec.{ltb, eqb}
+use lib.ListN.{length, getD, set, take, replicate}
+use lib.Seq.{length-take-le}
+use Rattle.places.specs.Places.{symbols, firstWhere, one, count}
+use Rattle.places.proofs.Searching.{first-passes, none-counted}
+use Rattle.places.proofs.Sums.{sum-set}
+use Rattle.symbols.specs.State.{nameBytes, paddedName, Entry, hasIndex, isVacant, placeAt, entryIn, entries, itself, placeOf, foundIn, vacancyOf, nobody}
+use Rattle.symbols.specs.Registering.{byteBad, nameBad, mostScale, registered, toldOf}
+use Rattle.symbols.specs.Promises.{Registers, Told}
+use Rattle.symbols.specs.declared.Place.{Place}
+use Rattle.symbols.specs.declared.Symbols.{Symbols}
+use Rattle.symbols.specs.declared.registering.Entered.{Entered}
+use Rattle.symbols.proofs.Finding.{is-none}
+use Rattle.symbols.proofs.Entries.{length-entries, nobody-there, entry-past, entry-there, withPlace, entries-set, sound-set, used-there}
+use Rattle.symbols.proofs.Padding.{length-padded, take-padded}
+
+-- a good name is not too long
+pub name-short : (name : List ℕ) → nameBad name ≡ false → length name ≤ nameBytes
+unfolding nameBad
+name-short name = go (eqb (length name) 0) (ltb nameBytes (length name)) refl
+  where
+    go : (t u : Bool) → ltb nameBytes (length name) ≡ u → cond t true (cond u true (ltb (firstWhere byteBad name) (length name))) ≡ false → length name ≤ nameBytes
+    go true u p e = absurd (true≢false e)
+    go false true p e = absurd (true≢false e)
+    go false false p e = ltb-false nameBytes (length name) p
+
+-- ---- the new symbol's place
+abbrev newPlace : ℕ → List ℕ → ℕ → Place
+newPlace index name scale = record { used = true; index = index; name = paddedName name; len = length name; scale = scale; standing = record { expected = 1; stale = false; whole = true } }
+
+module _ (b : Symbols) (index : ℕ) (name : List ℕ) (scale : ℕ) where
+  pub refused-scale : mostScale < scale → Registers b index name scale (record { symbols = b; answer = 13 })
+  unfolding registered
+  refused-scale h = record { kept = λ n. refl; next = rw (lt-ltb _ _ h); answer = rw (lt-ltb _ _ h); wf = λ w. w }
+
+  module _ (s : scale ≤ mostScale) where
+    pub refused-name : nameBad name ≡ true → Registers b index name scale (record { symbols = b; answer = 13 })
+    unfolding registered
+    refused-name n = record { kept = λ z. refl; next = rw (le-ltb _ _ s, n); answer = rw (le-ltb _ _ s, n); wf = λ w. w }
+
+    module _ (n : nameBad name ≡ false) where
+      pub refused-twice : placeOf itself index (entries b) < symbols → Registers b index name scale (record { symbols = b; answer = 11 })
+      unfolding registered
+      refused-twice h = record { kept = λ z. refl; next = rw (le-ltb _ _ s, n, lt-ltb _ _ h); answer = rw (le-ltb _ _ s, n, lt-ltb _ _ h); wf = λ w. w }
+
+      module _ (u : symbols ≤ placeOf itself index (entries b)) where
+        pub refused-ninth : symbols ≤ vacancyOf (entries b) → Registers b index name scale (record { symbols = b; answer = 12 })
+        unfolding registered
+        refused-ninth h = record { kept = λ z. refl; next = rw (le-ltb _ _ s, n, le-ltb _ _ u, le-ltb _ _ h); answer = rw (le-ltb _ _ s, n, le-ltb _ _ u, le-ltb _ _ h); wf = λ w. w }
+
+        -- the new index was nowhere, so it is now registered once
+        entered-once : (k : ℕ) → k ≡ vacancyOf (entries b) → k < symbols → (x : Entry) → x .index ≡ index → (i : ℕ) → count (hasIndex itself i) (entries b) ≤ 1 → count (hasIndex itself i) (set (entries b) k (some x)) ≤ 1
+        unfolding vacancyOf placeOf
+        entered-once k e h x is i once =
+            let inside : k < length (entries b) = (rw (length-entries b) h) in
+            let free : getD (entries b) k none ≡ none = is-none _ (rw e (first-passes isVacant (entries b) none (rw (← e) inside))) in
+            let z = sum-set (λ (y : Option Entry). one (hasIndex itself i y)) (entries b) k (some x) none inside in
+            go (eqb (x .index) i) refl (rw free at z)
+          where
+            go : (t : Bool) → eqb (x .index) i ≡ t → count (hasIndex itself i) (set (entries b) k (some x)) + 0 ≡ count (hasIndex itself i) (entries b) + one (eqb (x .index) i) → count (hasIndex itself i) (set (entries b) k (some x)) ≤ 1
+            go true q w =
+                let same : index ≡ i = sym is ∙ eqb-true (x .index) i q in
+                let none-yet : count (hasIndex itself i) (entries b) ≡ 0 = (rw (← same) (none-counted (hasIndex itself index) (entries b) (rw (length-entries b) u))) in
+                omega (arith, rw q at w, none-yet)
+            go false q w = omega (arith, rw q at w, once)
+
+        pub enters : (k : ℕ) → k ≡ vacancyOf (entries b) → k < symbols → length (b .places) ≡ symbols → Registers b index name scale (record { symbols = withPlace b k (newPlace index name scale); answer = 0 })
+        unfolding registered
+        enters k e h eight =
+            let long = name-short name n in
+            let l : ltb (vacancyOf (entries b)) symbols ≡ true = lt-ltb _ _ (rw e at h) in
+            record {
+              kept = λ z. absurd (z refl);
+              next = rw (le-ltb _ _ s, n, le-ltb _ _ u, l) (entries-set b k (newPlace index name scale) h eight ∙ ap (λ (m : ℕ). set (entries b) m (some (entryIn (newPlace index name scale)))) e ∙ ap (λ (l : List ℕ). set (entries b) (vacancyOf (entries b)) (some (record { index = index; name = l; scale = scale; standing = newPlace index name scale .standing }))) (take-padded name long));
+              answer = rw (le-ltb _ _ s, n, le-ltb _ _ u, l);
+              wf = λ w. record {
+                sound = sound-set b k (newPlace index name scale) h eight (record { short = long; zeros = rw (take-padded name long) }) w;
+                once = λ i. rw (entries-set b k (newPlace index name scale) h eight) (entered-once k e h (entryIn (newPlace index name scale)) refl i (w .once i));
+              };
+            }
+
+-- ---- what is told of a symbol
+module _ (b : Symbols) (index : ℕ) where
+  pub told-missing : symbols ≤ placeOf itself index (entries b) → Told b index (record { answer = 5; name = replicate nameBytes 0; len = 0; scale = 0 })
+  unfolding toldOf foundIn
+  told-missing h = let e = entry-past b (placeOf itself index (entries b)) h in record { answer = rw e; scale = rw e; obeys = λ w. rw e }
+
+  pub told-at : (k : ℕ) → k ≡ placeOf itself index (entries b) → k < symbols → Told b index (record { answer = 0; name = placeAt b k .name; len = placeAt b k .len; scale = placeAt b k .scale })
+  unfolding toldOf foundIn
+  told-at k is h =
+      let there : foundIn itself index (entries b) ≡ some (entryIn (placeAt b k)) = ap (λ (n : ℕ). getD (entries b) n none) (sym is) ∙ entry-there b k h (used-there b index k is h) in
+      record {
+        answer = sym (ap (λ (x : Option Entry). toldOf x .answer) there);
+        scale = sym (ap (λ (x : Option Entry). toldOf x .scale) there);
+        obeys = λ w.
+            let s = w .sound k h in
+            let long : length (placeAt b k .name) ≡ nameBytes = ap length (s .zeros) ∙ length-padded _ in
+            let len : length (take (placeAt b k .len) (placeAt b k .name)) ≡ placeAt b k .len = length-take-le (placeAt b k .len) (placeAt b k .name) (rw long (s .short)) in
+            (λ i. record { answer = 0; name = s .zeros i; len = sym len i; scale = placeAt b k .scale }) ∙ sym (ap toldOf there);
+      }
+
+-- ---- a good symbol is taken into new symbols: there is such a result
+pub record SomeEntered (index : ℕ) (name : List ℕ) (scale : ℕ) : Type 0 where
+  pub result : Entered
+  pub registers : Registers nobody index name scale result
+
+pub some-entered : (index : ℕ) (name : List ℕ) (scale : ℕ) → scale ≤ mostScale → nameBad name ≡ false → SomeEntered index name scale
+unfolding placeOf vacancyOf firstWhere
+some-entered index name scale s n = record { result = _; registers = enters nobody index name scale s n (rw nobody-there (omega arith)) 0 (rw nobody-there) (omega arith) refl }

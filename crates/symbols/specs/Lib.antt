@@ -1,0 +1,4 @@
+pub mod State
+pub mod Registering
+pub mod Turns
+pub mod Promises
