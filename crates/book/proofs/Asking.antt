@@ -8,14 +8,13 @@ use Rattle.places.proofs.EightShelves.{by-place}
 use Rattle.symbols.specs.State.{Entry, entries, itself, placeOf, foundIn}
 use Rattle.symbols.specs.Turns.{standingOf}
 use Rattle.symbols.specs.Registering.{toldOf}
-use Rattle.symbols.specs.Promises as symbols-promises
 use Rattle.symbols.specs.declared.Standing.{Standing}
 use Rattle.symbols.specs.declared.registering.Listing.{Listing}
 use Rattle.symbols.proofs.Entries.{length-entries}
 use Rattle.symbols.proofs.Finding.{missing}
 use Rattle.record.specs.Rules.{sharesOf}
 use Rattle.book.specs.State.{entryAt, ordersAt, tradesAt, view, entryOf, symbolIn}
-use Rattle.book.specs.Registering.{toldIn, Told}
+use Rattle.book.specs.Registering.{toldIn}
 use Rattle.book.specs.Quote.{noQuote, quotedIf, quoted, quoteOf, volumeIn, volumeOf}
 use Rattle.book.specs.declared.Book.{Book}
 use Rattle.book.proofs.Views.{place-is, symbol-missing, symbol-at}
@@ -56,10 +55,6 @@ module _ (b : Book) (index : ℕ) where
       (λ h. let f = symbol-at b index (placeOf itself index (entries (b .symbols))) (place-is b index) h in f .at ∙ sym (ap (Option·map entryOf) (f .there)))
       (λ h. missing itself (entries (b .symbols)) index (rw (length-entries (b .symbols)) h) ∙ sym (ap (Option·map entryOf) (symbol-missing b index (rw (place-is b index) at h))))
 
-  pub tells : (r : Listing) → symbols-promises.Told (b .symbols) index r → Told b index r
+  pub tells : (r : Listing) → r ≡ toldOf (foundIn itself index (entries (b .symbols))) → r ≡ toldIn index (view b)
   unfolding toldIn
-  tells r t = record {
-    answer = t .answer ∙ ap (λ (x : Option Entry). toldOf x .answer) same-entry;
-    scale = t .scale ∙ ap (λ (x : Option Entry). toldOf x .scale) same-entry;
-    obeys = λ w. t .obeys (w .names) ∙ ap toldOf same-entry;
-  }
+  tells r t = t ∙ ap toldOf same-entry

@@ -23,17 +23,18 @@ use Rattle.record.specs.declared.Deal.{Deal}
 pub record SameName (s t : Symbol) : Type 0 where
   pub index : t .entry .index ≡ s .entry .index
   pub name : t .entry .name ≡ s .entry .name
+  pub len : t .entry .len ≡ s .entry .len
   pub scale : t .entry .scale ≡ s .entry .scale
 
 enacted-keeps-name : (s : Symbol) (d : Deal) (r : Ruling (List Order)) → SameName s (enacted s d r .symbol)
 unfolding enacted
-enacted-keeps-name s d (unchanged a) = record { index = refl; name = refl; scale = refl }
-enacted-keeps-name s d (made-stale a) = record { index = refl; name = refl; scale = refl }
-enacted-keeps-name s d (applied os) = record { index = refl; name = refl; scale = refl }
+enacted-keeps-name s d (unchanged a) = record { index = refl; name = refl; len = refl; scale = refl }
+enacted-keeps-name s d (made-stale a) = record { index = refl; name = refl; len = refl; scale = refl }
+enacted-keeps-name s d (applied os) = record { index = refl; name = refl; len = refl; scale = refl }
 
 meets-keeps-name : (s : Symbol) (a : Act Effect) → SameName s (meets s a .symbol)
 unfolding meets
-meets-keeps-name s (clear index next) = record { index = refl; name = refl; scale = refl }
+meets-keeps-name s (clear index next) = record { index = refl; name = refl; len = refl; scale = refl }
 meets-keeps-name s (numbered index n e) = enacted-keeps-name s (dealOf e) _
 
 -- ---- a message

@@ -13,3 +13,4 @@ pub mod Refusals
 pub mod Answers
 pub mod Positions
 pub mod Reaching
+pub mod Streams

@@ -25,7 +25,7 @@ alike a b u v e = record {
   registering = λ index name scale q r p s. same-next _ _ _ _ _ _ (ap (λ (x : View). registerOf x index name scale) e) (p .obeys u) (s .obeys v);
   applying = λ s at q r p m. let z = same-next _ _ _ _ _ _ (ap (λ (x : View). moveOf x s at) e) (p .obeys u) (m .obeys v) in (z .0, p .at ∙ sym (m .at), p .stops ∙ sym (m .stops), z .1);
   running = λ s at q r p m. let z = same-next _ _ _ _ _ _ (ap (λ (x : View). runOf x s at) e) (p .obeys u) (m .obeys v) in (z .0, p .at ∙ sym (m .at), z .1);
-  telling = λ index q r p t. p .obeys u ∙ ap (toldIn index) e ∙ sym (t .obeys v);
+  telling = λ index q r p t. p ∙ ap (toldIn index) e ∙ sym t;
   quoting = λ index q r p s. p ∙ ap (quoteOf index) e ∙ sym s;
   summing = λ index q r p s. p ∙ ap (volumeOf index) e ∙ sym s;
 }

@@ -3,7 +3,7 @@ use mathlib.Core.List.{List}
 use mathlib.Core.Path.{_≡_}
 use Prim.Native.Nat.{ℕ}
 use Rattle.book.specs.State.{view, Fresh}
-use Rattle.book.specs.Registering.{registerOf, Told}
+use Rattle.book.specs.Registering.{registerOf, toldIn}
 use Rattle.book.specs.Quote.{quoteOf, volumeOf}
 use Rattle.book.specs.Promises.{Steps}
 use Rattle.book.specs.Walk.{Moves, Runs}
@@ -29,6 +29,6 @@ pub record Alike (a b : Book) : Type 0 where
       → (q .answer ≡ r .answer) × (q .at ≡ r .at) × (q .stops ≡ r .stops) × (view (q .book) ≡ view (r .book))
   pub running : (s : List ℕ) (at : ℕ) (q r : Ran) → Runs a s at q → Runs b s at r
       → (q .answer ≡ r .answer) × (q .at ≡ r .at) × (view (q .book) ≡ view (r .book))
-  pub telling : (index : ℕ) (q r : Listing) → Told a index q → Told b index r → q ≡ r
+  pub telling : (index : ℕ) (q r : Listing) → q ≡ toldIn index (view a) → r ≡ toldIn index (view b) → q ≡ r
   pub quoting : (index : ℕ) (q r : Quote) → q ≡ quoteOf index (view a) → r ≡ quoteOf index (view b) → q ≡ r
   pub summing : (index : ℕ) (q r : Volume) → q ≡ volumeOf index (view a) → r ≡ volumeOf index (view b) → q ≡ r

@@ -3,10 +3,9 @@ use mathlib.Core.List.{List, []}
 use mathlib.Core.Option.{Option·map}
 use Prim.Native.Nat.{ℕ}
 use Rattle.symbols.specs.State.{Entry}
-use Rattle.symbols.specs.Registering.{Next, registered, toldOf, ToldBy}
+use Rattle.symbols.specs.Registering.{Next, registered, toldOf}
 use Rattle.symbols.specs.declared.registering.Listing.{Listing}
-use Rattle.book.specs.State.{Symbol, View, symbolOf, view, entryOf, symbolIn, Wf}
-use Rattle.book.specs.declared.Book.{Book}
+use Rattle.book.specs.State.{Symbol, View, symbolOf, entryOf, symbolIn}
 
 -- a new symbol has nothing live and nothing recorded
 abbrev pub started : Entry → Symbol
@@ -18,6 +17,3 @@ registerOf v index name scale = registered entryOf started v index name scale
 -- ---- what is told of a symbol hangs on its entry
 unfoldable pub toldIn : ℕ → View → Listing
 toldIn index v = toldOf (Option·map entryOf (symbolIn index v))
-
-abbrev pub Told : Book → ℕ → Listing → Type 0
-Told b index r = ToldBy (Wf b) (toldIn index (view b)) r

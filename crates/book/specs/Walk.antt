@@ -49,6 +49,14 @@ walkFor (suc f) s at = walkBy (reachOf (drop at s)) s at (λ e. walkFor f s e)
 unfoldable pub walkOf : List ℕ → ℕ → Walk
 walkOf s at = walkFor (suc (length s)) s at
 
+-- a message that is all there has as many bytes as its Msg Size says
+abbrev pub CompleteMessage : List ℕ → Type 0
+CompleteMessage m = reachOf m ≡ done (length m)
+
+abbrev pub AllComplete : List (List ℕ) → Type 0
+AllComplete [] = Unit {0}
+AllComplete (m ∷ ms) = CompleteMessage m × AllComplete ms
+
 -- ---- the run: the step over each message in turn
 unfoldable pub stepsOf : View → List (List ℕ) → View
 stepsOf v [] = v

@@ -2,9 +2,10 @@
 use crate::Book;
 use crate::Done;
 use symbols::Listing;
+ghost use mathlib.Core.Path.{_≡_};
 ghost use Rattle.book.specs.State.{view};
 ghost use Rattle.book.specs.Promises.{Steps};
-ghost use Rattle.book.specs.Registering.{registerOf, Told};
+ghost use Rattle.book.specs.Registering.{registerOf, toldIn};
 
 impl Book {
     // Registers a symbol: 13, then 11, then 12; or it starts with no orders and expects number 1.
@@ -23,7 +24,7 @@ impl Book {
 
     // What was registered under an index, or 5.
     pub fn symbol(self, index: u32) -> Listing
-        ensures { λ r. ⌜ Told self index r ⌝ }
+        ensures { λ r. ⌜ r ≡ toldIn index (view self) ⌝ }
     {
         let symbols = self.symbols;
         symbols.told(index)

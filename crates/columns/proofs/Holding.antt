@@ -66,6 +66,11 @@ count-some xs n e h = sym (length-take-le n xs (omega arith))
 pub count-all : (xs : List ℕ) (n : ℕ) → length xs ≡ room → room < n → room ≡ length (take n xs)
 count-all xs n e h = sym e ∙ ap length (sym (take-all n xs (omega arith)))
 
+-- never more than its room
+pub held-within : (l : Line) → length (l .bytes) ≡ room → length (held l) ≤ room
+unfolding held
+held-within l e = omega (arith, length-take (l .len) (l .bytes), e)
+
 -- ---- the bytes behind a line
 take-as-many : (n : ℕ) (xs : List ℕ) → take (length (take n xs)) xs ≡ take n xs
 take-as-many zero xs = refl

@@ -117,7 +117,7 @@ demand-1-holds {b = b} p = record {
   registering = λ index name scale m. rw (m .obeys (reached-wf p) .answer) (register-answers entryOf started (view b) index name scale);
   quoting = quote-answers (view b);
   summing = volume-answers (view b);
-  telling = λ index t. rw (t .answer) (told-answers (view b) index);
+  telling = λ index t. rw t (told-answers (view b) index);
   registering-unchanged = λ index name scale m n. m .kept (refused-registering _ (rw (m .obeys (reached-wf p) .answer) (register-answers entryOf started (view b) index name scale)) n);
   refused-unchanged = λ m. m .kept;
   refused-no-order = λ {s = s} {at = at} m n index. let o = m .obeys (reached-wf p) in

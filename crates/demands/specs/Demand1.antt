@@ -8,7 +8,7 @@ use mathlib.Core.Path.{_≡_}
 use Rattle.places.specs.Places.{among}
 use Rattle.book.specs.State.{Symbol, view, symbolIn}
 use Rattle.book.specs.Promises.{unchanging, Steps}
-use Rattle.book.specs.Registering.{registerOf, Told}
+use Rattle.book.specs.Registering.{registerOf, toldIn}
 use Rattle.book.specs.Quote.{quoteOf, volumeOf}
 use Rattle.book.specs.Walk.{Moves, Runs}
 use Rattle.book.specs.declared.Book.{Book}
@@ -30,7 +30,7 @@ pub record Demand1 (b : Book) : Type 0 where
   pub registering : {r : Done} (index : ℕ) (name : List ℕ) (scale : ℕ) → Steps b (registerOf (view b) index name scale) r → among (r .answer) (0 ∷ 11 ∷ 12 ∷ 13 ∷ []) ≡ true
   pub quoting : (index : ℕ) → among (quoteOf index (view b) .answer) (0 ∷ 5 ∷ 8 ∷ []) ≡ true
   pub summing : (index : ℕ) → among (volumeOf index (view b) .answer) (0 ∷ 5 ∷ []) ≡ true
-  pub telling : {r : Listing} (index : ℕ) → Told b index r → among (r .answer) (0 ∷ 5 ∷ []) ≡ true
+  pub telling : {r : Listing} (index : ℕ) → r ≡ toldIn index (view b) → among (r .answer) (0 ∷ 5 ∷ []) ≡ true
   -- a refused registering leaves the state as it was
   pub registering-unchanged : {r : Done} (index : ℕ) (name : List ℕ) (scale : ℕ) → Steps b (registerOf (view b) index name scale) r → r .answer ≢ 0 → r .book ≡ b
   -- 1 to 6 and 8 leave the state as it was, and no refusal changes an order

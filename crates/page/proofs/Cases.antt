@@ -2,20 +2,21 @@
 use mathlib.Core.Path.{_≡_, refl, ap, sym, _∙_}
 use mathlib.Core.List.{List, _++_}
 use mathlib.Core.Bool.{Bool, true, false}
-use Prim.Native.Nat.{ℕ, _≤_, _<_}
+use Prim.Native.Nat.{ℕ, _+_, _≤_, _<_}
+use native.Mathlib.Nat.{zero-add}
 use native.Mathlib.Omega.{arith}
 use lib.ListN.{length, take, drop}
-use lib.Seq.{drop-append-seam}
+use lib.Seq.{drop-append-seam, paste}
 use lib.Dec.{ltb}
 use borrow.Author.Tests.{lt-ltb, le-ltb, eq-eqb, ne-eqb}
-use Rattle.wire.specs.Outcome.{Outcome, done, refused, numberOf}
+use Rattle.wire.specs.Outcome.{done}
 use Rattle.wire.specs.Writing.{Write, refuse, countOf}
 use Rattle.wire.specs.Message.{typeOf, hasBadField}
 use Rattle.wire.specs.declared.Message.{Message}
 use Rattle.symbols.specs.declared.registering.Listing.{Listing}
 use Rattle.columns.specs.Columns.{rendered}
 use Rattle.page.specs.Columns.{columnsOf}
-use Rattle.page.specs.Printing.{hasNoLine, lastSecond, laidIf, laid, lineBy, lineOf, RefusedAnyway}
+use Rattle.page.specs.Printing.{hasNoLine, lastSecond, laidIf, laid, Appends, lineBy, lineOf}
 
 -- ---- the room
 module _ (line out : List ℕ) where
@@ -27,12 +28,16 @@ module _ (line out : List ℕ) where
   unfolding laid
   laid-fits h = rw (le-ltb _ _ h) refl
 
--- a line copied by its count from bytes that begin with it
+-- a line copied by its count from bytes that begin with it, to the start of a buffer
 pub laid-copied : (line bs out : List ℕ) (k : ℕ) → k ≡ length line → take (length line) bs ≡ line → k ≤ length out →
-    record { outcome = done k; out = take k bs ++ drop k out } ≡ laid line out
+    record { outcome = done k; out = paste out 0 bs k } ≡ laid line out
 laid-copied line bs out k e b h =
-    (λ i. record { outcome = done (e i); out = (ap (λ j. take j bs) e ∙ b) i ++ drop (e i) out })
+    (λ i. record { outcome = done (e i); out = (ap (λ j. take j bs) e ∙ b) i ++ drop ((zero-add k ∙ e) i) out })
     ∙ sym (laid-fits line out (omega (arith, e, h)))
+
+-- or behind its first bytes
+pub appended : (line bs out after : List ℕ) (at k : ℕ) → k ≡ length line → take (length line) bs ≡ line → after ≡ paste out at bs k → Appends line at out (at + k) after
+appended line bs out after at k e b c = record { count = ap (λ j. at + j) e; out = c ∙ (λ i. take at out ++ (ap (λ j. take j bs) e ∙ b) i ++ drop (at + e i) out) }
 
 -- ---- the checks, in their order
 module _ (s : Listing) (m : Message) (plain : List ℕ) (sequence second : ℕ) (out : List ℕ) where
@@ -58,30 +63,6 @@ module _ (s : Listing) (m : Message) (plain : List ℕ) (sequence second : ℕ) 
         pub line-good : second ≤ lastSecond → lineOf s m plain sequence second out ≡ laid (rendered (columnsOf s m plain sequence second)) out
         unfolding lineOf lineBy
         line-good h = rw (type, fields, eq-eqb _ _ known, le-ltb _ _ h) refl
-
--- ---- refusals before the room, with any line
-
--- a refusal of this number is no other
-refused-is : (n k : ℕ) (out : List ℕ) → _≡_ {A = Outcome ℕ} (refused n) (refused k) → refuse n out ≡ refuse k out
-refused-is n k out e = ap (λ (o : Outcome ℕ). refuse (numberOf o) out) e
-
-laid-not-refused : (short : Bool) (line out : List ℕ) (k : ℕ) → k < 15 → laidIf short line out .outcome ≡ refused k → ⊥
-laid-not-refused true line out k h e = let z : _≡_ {A = ℕ} 15 k = ap numberOf e in omega (arith, z, h)
-laid-not-refused false line out k h e = let z : _≡_ {A = ℕ} 0 1 = cc in omega (arith, z)
-
-refused-alike : (no-line bad known late : Bool) (line line′ out : List ℕ) (k : ℕ) → k < 15 → lineBy no-line bad known late line out .outcome ≡ refused k →
-    lineBy no-line bad known late line′ out ≡ refuse k out
-unfolding lineBy laid
-refused-alike true bad known late line line′ out k h e = refused-is 3 k out e
-refused-alike false true known late line line′ out k h e = refused-is 4 k out e
-refused-alike false false false late line line′ out k h e = refused-is 5 k out e
-refused-alike false false true true line line′ out k h e = refused-is 14 k out e
-refused-alike false false true false line line′ out k h e = absurd (laid-not-refused (ltb (length out) (length line)) line out k h e)
-
-pub line-refuses : (s t : Listing) (m : Message) (plain : List ℕ) (sequence second : ℕ) (out : List ℕ) → s .answer ≡ t .answer →
-    RefusedAnyway (lineOf t m plain sequence second out) out (lineOf s m plain sequence second out)
-unfolding RefusedAnyway lineOf
-line-refuses s t m plain sequence second out e k h r = rw e (refused-alike _ _ _ _ _ _ out k h r)
 
 -- ---- what stays in the buffer: the bytes beyond the count, so all of it where a line is refused
 abbrev pub StaysBeyond : Write → List ℕ → Type 0

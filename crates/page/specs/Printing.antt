@@ -1,9 +1,9 @@
 -- Printing a line: the type (3), the message's fields (4), the symbol (5), the second of the day (14) and the room (15), in the order of document 01's checks.
-use Prim.Native.Nat.{ℕ, _<_}
 use mathlib.Core.Path.{_≡_}
+use Prim.Native.Nat.{ℕ, _+_}
 use mathlib.Core.List.{List, _++_}
 use mathlib.Core.Bool.{Bool, true, false, cond, not}
-use lib.ListN.{length, drop}
+use lib.ListN.{length, take, drop}
 use lib.Dec.{ltb, eqb}
 use Rattle.wire.specs.Outcome.{Outcome, done, refused}
 use Rattle.wire.specs.Writing.{Write, refuse}
@@ -45,6 +45,11 @@ laidIf false line out = record { outcome = done (length line); out = line ++ dro
 unfoldable pub laid : List ℕ → List ℕ → Write
 laid line out = laidIf (ltb (length out) (length line)) line out
 
+-- a line behind the first bytes of a buffer: how many bytes there are then, and the buffer
+pub record Appends (line : List ℕ) (at : ℕ) (before : List ℕ) (r : ℕ) (after : List ℕ) : Type 0 where
+  pub count : r ≡ at + length line
+  pub out : after ≡ take at before ++ line ++ drop (at + length line) before
+
 -- one clause for each check: has the type no line, a field a fault, is the symbol known, the second past the day?
 unfoldable pub lineBy : Bool → Bool → Bool → Bool → List ℕ → List ℕ → Write
 lineBy true bad known late line out = refuse 3 out
@@ -61,7 +66,3 @@ lineOf s m plain sequence second out =
 -- what a book tells of a message's symbol
 abbrev pub told : Book → Message → Listing
 told b m = toldIn (indexIn m) (view b)
-
--- 3, 4, 5 and 14 hang on no name and no scale: what is refused so is refused of any book
-unfoldable pub RefusedAnyway : Write → List ℕ → Write → Type 0
-RefusedAnyway line out w = (k : ℕ) → k < 15 → line .outcome ≡ refused k → w ≡ refuse k out

@@ -1,21 +1,23 @@
--- What the program prints: document 01, "What the bureau's reader does".
-use Prim.Native.Nat.{ℕ, _%_}
+-- What is printed of a file of messages: document 01, "What the bureau's reader does".
+use Prim.Native.Nat.{ℕ, _+_, _%_}
 use mathlib.Core.List.{List, [], _∷_, _++_}
 use mathlib.Core.Bool.{Bool, true, false, cond}
 use lib.Dec.{eqb}
 use Rattle.wire.specs.Outcome.{Outcome, done, refused}
-use Rattle.wire.specs.Reading.{Read}
-use Rattle.wire.specs.Writing.{Write}
-use Rattle.wire.specs.Message.{typeOf}
+use Rattle.wire.specs.Reading.{readOf}
+use Rattle.wire.specs.Message.{typeOf, indexIn}
 use Rattle.wire.specs.declared.Message.{Message}
-use Rattle.book.specs.State.{view}
-use Rattle.book.specs.Registering.{toldIn}
-use Rattle.book.specs.Quote.{quoteOf}
-use Rattle.book.specs.declared.Book.{Book}
+use Rattle.symbols.specs.Registering.{Next}
 use Rattle.orders.specs.declared.levels.Level.{Level}
+use Rattle.book.specs.State.{Symbol, View}
+use Rattle.book.specs.Registering.{toldIn}
+use Rattle.book.specs.Step.{stepOf}
+use Rattle.book.specs.Quote.{quoteOf}
+use Rattle.book.specs.Walk.{Walk, walkOf, stepsOf}
 use Rattle.book.specs.declared.quote.Quote.{Quote}
 use Rattle.columns.specs.Columns.{Column, number, price, bytes, rendered}
-use Rattle.page.specs.Printing.{hasNoLine, laid, lineOf, told}
+use Rattle.page.specs.Columns.{columnsOf}
+use Rattle.page.specs.Printing.{hasNoLine}
 
 -- a letter that tells what a line is
 abbrev pub letter : ℕ → Column
@@ -30,7 +32,7 @@ letterE = letter 69
 abbrev pub letterQ : Column
 letterQ = letter 81
 
--- ---- a message that was passed over
+-- ---- a message that was passed over, by its answer and the view after it
 
 -- a refusal before the stop: `R,answer,place`
 abbrev pub refusal : ℕ → ℕ → List Column
@@ -43,17 +45,30 @@ sequences = 4294967296
 abbrev pub sequenceOf : ℕ → ℕ
 sequenceOf place = place % sequences
 
--- the line of a done 100 or 111, by the line's own checks, and nothing of another type
-abbrev pub lineIf : Bool → Write → List ℕ → Write
-lineIf true line out = laid [] out
-lineIf false line out = line
+-- the line of a done 100 or 111, and nothing of another type
+abbrev pub lineIf : Bool → List ℕ → List ℕ
+lineIf true line = []
+lineIf false line = line
 
-abbrev pub doneOf : Book → Outcome Message → List ℕ → ℕ → ℕ → List ℕ → Write
-doneOf b (refused a) plain place second out = laid [] out
-doneOf b (done m) plain place second out = lineIf (hasNoLine (typeOf m)) (lineOf (told b m) m plain (sequenceOf place) second out) out
+abbrev pub doneText : View → Outcome Message → List ℕ → ℕ → ℕ → List ℕ
+doneText v (refused a) plain place second = []
+doneText v (done m) plain place second = lineIf (hasNoLine (typeOf m)) (rendered (columnsOf (toldIn (indexIn m) v) m plain (sequenceOf place) second))
 
-unfoldable pub passedOf : Book → Read → ℕ → ℕ → ℕ → List ℕ → Write
-passedOf b d answer place second out = cond (eqb answer 0) (doneOf b (d .outcome) (d .plain) place second out) (laid (rendered (refusal answer place)) out)
+unfoldable pub passedText : Next Symbol → List ℕ → ℕ → ℕ → List ℕ
+passedText x m place second = cond (eqb (x .answer) 0) (doneText (x .view) (readOf m .outcome) (readOf m .plain) place second) (rendered (refusal (x .answer) place))
+
+-- ---- messages one behind the other: each has the next place, and the answer and the view that the rules give it
+
+-- a place has 64 bits
+abbrev pub placeNumbers : ℕ
+placeNumbers = 18446744073709551616
+
+abbrev pub nextPlace : ℕ → ℕ
+nextPlace place = (place + 1) % placeNumbers
+
+unfoldable pub textsOf : ℕ → View → ℕ → List (List ℕ) → List ℕ
+textsOf second v place [] = []
+textsOf second v place (m ∷ ms) = passedText (stepOf v (readOf m)) m (nextPlace place) second ++ textsOf second (stepOf v (readOf m) .view) (nextPlace place) ms
 
 -- ---- the end
 
@@ -75,6 +90,13 @@ quoteColumns false scale x = number (x .answer) ∷ []
 unfoldable pub quoteText : ℕ → Quote → List ℕ
 quoteText scale x = rendered (letterQ ∷ quoteColumns (eqb (x .answer) 0) scale x)
 
--- of a book's symbol
-abbrev pub quoteTextOf : Book → ℕ → List ℕ
-quoteTextOf b index = quoteText (toldIn index (view b) .scale) (quoteOf index (view b))
+-- the answer that stopped the walk, and the quote of the last state
+unfoldable pub closing : View → ℕ → ℕ → List ℕ
+closing v index answer = endText answer ++ quoteText (toldIn index v .scale) (quoteOf index v)
+
+-- ---- a whole file, walked from a state in which the symbol with that index is registered
+unfoldable pub printedOf : ℕ → ℕ → View → Walk → List ℕ
+printedOf index second v w = textsOf second v 0 (w .messages) ++ closing (stepsOf v (w .messages)) index (w .answer)
+
+abbrev pub printoutOf : ℕ → ℕ → View → List ℕ → List ℕ
+printoutOf index second v file = printedOf index second v (walkOf file 0)

@@ -1,14 +1,15 @@
 // The page: the TAQ lines of an add (100) and a cross (111), and what the program prints, into a lent buffer.
 //
 // Every promise is an equation with a definition of specs/, where document 01's rules stand. No public function asks anything of its caller.
+mod laying;
 mod lines;
 mod printing;
-mod printout;
+mod texts;
 
+pub use laying::Laid;
+pub use laying::lay;
+pub use laying::lay_end;
 pub use printing::line;
-pub use printout::end_text;
-pub use printout::passed_text;
-pub use printout::quote_text;
 ghost use mathlib.Core.Path.{_≡_};
 ghost use Rattle.wire.specs.Outcome.{numberOf};
 ghost use Rattle.wire.specs.Writing.{countOf};

@@ -9,15 +9,14 @@ use symbols::Listing;
 use wire::Message;
 use wire::PLAIN;
 ghost use mathlib.Core.Path.{_≡_};
-ghost use mathlib.Core.List.{_++_};
-ghost use Prim.Native.Nat.{_≤_};
-ghost use lib.ListN.{length, take, drop};
-ghost use Rattle.book.specs.State.{Wf};
+ghost use Prim.Native.Nat.{_+_, _≤_};
+ghost use lib.ListN.{length};
+ghost use lib.Seq.{paste};
 ghost use Rattle.columns.specs.Held.{held, room};
-ghost use Rattle.page.specs.Printing.{printed, hasNoLine, laid, lineOf, RefusedAnyway, told};
+ghost use Rattle.page.specs.Printing.{printed, hasNoLine, laid, lineOf, told, Appends};
 
 // The last second of a day.
-const LAST_SECOND: u32 = 86399;
+pub(crate) const LAST_SECOND: u32 = 86399;
 
 // Prints the line of a message with its byte array to the start of out. The caller gives the feed's sequence number and the local second of the day.
 // Refused, it leaves every byte of out.
@@ -29,8 +28,7 @@ pub fn line(
     second: u32,
     out: &mut [u8],
 ) -> Printed
-    ensures prints { λ r. ⌜ (Wf book → printed r (now (out .exit)) ≡ lineOf (told book m) m plain sequence second (now (out .entry))) ⌝ }
-    ensures refuses { λ r. ⌜ RefusedAnyway (lineOf (told book m) m plain sequence second (now (out .entry))) (now (out .entry)) (printed r (now (out .exit))) ⌝ }
+    ensures { λ r. ⌜ printed r (now (out .exit)) ≡ lineOf (told book m) m plain sequence second (now (out .entry)) ⌝ }
 {
     let s = book.symbol(wire::index_of(m));
     line_told(s, m, plain, sequence, second, out)
@@ -81,18 +79,29 @@ pub(crate) fn emit(l: Line, out: &mut [u8]) -> Printed
     if out.len() < n {
         return Printed::NoRoom;
     }
-    copy(out, bytes, n);
+    copy(out, 0, bytes, n);
     Printed::Bytes(n)
 }
 
-// The first n bytes over those of out.
-fn copy(out: &mut [u8], bytes: [u8; ROOM], n: usize)
-    requires { ⌜ (n ≤ room) × (n ≤ length (now out)) ⌝ }
-    ensures { λ _. ⌜ now (out .exit) ≡ take n bytes ++ drop n (now (out .entry)) ⌝ }
+// A line behind the first bytes of out, and how many bytes there are then.
+pub(crate) fn append(l: Line, out: &mut [u8], at: usize) -> usize
+    requires { ⌜ at + room ≤ length (now out) ⌝ }
+    ensures { λ r. ⌜ Appends (held l) at (now (out .entry)) r (now (out .exit)) ⌝ }
+{
+    let bytes = columns::bytes(l);
+    let n = count(l);
+    copy(out, at, bytes, n);
+    at + n
+}
+
+// The first n bytes over those of out from `at` on.
+fn copy(out: &mut [u8], at: usize, bytes: [u8; ROOM], n: usize)
+    requires { ⌜ (n ≤ room) × (at + n ≤ length (now out)) ⌝ }
+    ensures { λ _. ⌜ now (out .exit) ≡ paste (now (out .entry)) at bytes n ⌝ }
 {
     let mut i = 0;
     while i < n {
-        out[i] = bytes[i];
+        out[at + i] = bytes[i];
         i += 1;
     }
 }

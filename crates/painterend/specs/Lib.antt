@@ -1,1 +1,3 @@
-pub mod Between
+pub mod Program
+pub mod Turn
+pub mod Session

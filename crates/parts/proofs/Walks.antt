@@ -1,15 +1,15 @@
 -- What a walk finds hangs on the bytes from its position on, and not on where they stand, so it goes one message at a time over what is left.
-use mathlib.Core.List.{List, _∷_}
+use mathlib.Core.List.{List, [], _∷_, _++_, append-assoc, flatten}
 use mathlib.Core.Path.{_≡_, refl, sym, ap, _∙_, subst}
 use Prim.Native.Nat.{ℕ, zero, suc, _+_, _<_, _≤_}
 use native.Mathlib.Omega.{arith}
-use native.Mathlib.Nat.{not-suc-le-zero, zero-add}
-use lib.ListN.{length, take, drop, length-drop}
-use lib.Seq.{drop-drop}
+use native.Mathlib.Nat.{not-suc-le-zero, zero-add, add-assoc}
+use lib.ListN.{length, take, drop, length-drop, length-append}
+use lib.Seq.{drop-drop, take-at, drop-at}
 use Rattle.wire.specs.Outcome.{Outcome, done, refused}
 use Rattle.wire.specs.Reading.{reachOf}
-use Rattle.wire.proofs.Cases.{reached}
-use Rattle.book.specs.Walk.{Walk, walkBy, walkFor, walkOf}
+use Rattle.wire.proofs.Cases.{reached, reach-more}
+use Rattle.book.specs.Walk.{Walk, AllComplete, walkBy, walkFor, walkOf}
 use Rattle.book.proofs.Positions.{stops-there}
 use Rattle.parts.specs.Parts.{stopped, leftOf}
 
@@ -67,6 +67,18 @@ module _ (s : List ℕ) where
       let m = w .moved in
       let to : walkFor (length s) s (0 + n) .at ≡ n + walkOf (drop n s) 0 .at = omega arith in
       rw e (λ i. record { messages = take n s ∷ w .messages i; at = to i; answer = w .answer i })
+
+-- complete messages at the front are passed one by one, and the walk goes on behind them
+pub walk-behind : (ms : List (List ℕ)) → AllComplete ms → (s : List ℕ) → walkOf (flatten ms ++ s) 0 ≡ record { messages = ms ++ walkOf s 0 .messages; at = length (flatten ms) + walkOf s 0 .at; answer = walkOf s 0 .answer }
+unfolding flatten
+walk-behind [] c s = λ i. record { messages = walkOf s 0 .messages; at = sym (zero-add (walkOf s 0 .at)) i; answer = walkOf s 0 .answer }
+walk-behind (m ∷ ms) c s =
+    let w = walkOf s 0 in
+    ap (λ (l : List ℕ). walkOf l 0) (append-assoc m (flatten ms) s)
+    ∙ walk-goes (m ++ (flatten ms ++ s)) (length m) (reach-more m (flatten ms ++ s) (length m) (c .0) .0)
+    ∙ (λ i. after (take-at m (flatten ms ++ s) (length m) refl i) (length m) (walkOf (drop-at m (flatten ms ++ s) (length m) refl i) 0))
+    ∙ ap (after m (length m)) (walk-behind ms (c .1) s)
+    ∙ (λ i. record { messages = m ∷ (ms ++ w .messages); at = (sym (add-assoc (length m) (length (flatten ms)) (w .at)) ∙ ap (λ (n : ℕ). n + w .at) (sym (length-append m (flatten ms)))) i; answer = w .answer })
 
 -- what holds where a walk stops, and of some bytes if of those behind their first message, holds of all bytes
 module _ (P : List ℕ → Type 0) (stops : (s : List ℕ) (a : ℕ) → reachOf s ≡ refused a → P s) (goes : (s : List ℕ) (n : ℕ) → reachOf s ≡ done n → P (drop n s) → P s) where

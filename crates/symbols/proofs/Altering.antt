@@ -14,7 +14,7 @@ use Rattle.symbols.specs.Promises.{standingBy, altered, Alters}
 use Rattle.symbols.specs.declared.Standing.{Standing}
 use Rattle.symbols.specs.declared.Place.{Place}
 use Rattle.symbols.specs.declared.Symbols.{Symbols}
-use Rattle.symbols.proofs.Entries.{seen, length-entries, entry-at, entry-past, withPlace, entries-set, sound-set}
+use Rattle.symbols.proofs.Entries.{seen, length-entries, entry-at, entry-past, withPlace, entries-set}
 
 -- a place with another standing
 abbrev restanding : Place → Standing → Place
@@ -54,10 +54,7 @@ module _ (b : Symbols) (k : ℕ) where
     stands h eight = record {
       outside = λ o. absurd (omega (arith, h, o));
       next = stored h eight;
-      wf = λ w. record {
-        sound = sound-set b k (restanding (placeAt b k) s) h eight (record { short = w .sound k h .short; zeros = w .sound k h .zeros }) w;
-        once = λ index. still-once (λ t. s) _ h (stored h eight) index (w .once index);
-      };
+      wf = λ w. record { once = λ index. still-once (λ t. s) _ h (stored h eight) index (w .once index) };
     }
 
     pub stands-nowhere : symbols ≤ k → Alters b k (λ t. s) b

@@ -7,20 +7,18 @@ use Prim.Native.Nat.{ℕ, _+_, _<_, _≤_}
 use native.Mathlib.Omega.{arith}
 use borrow.Author.Tests.{lt-ltb, le-ltb, ltb-false, eqb-true}
 use lib.Dec.{ltb, eqb}
-use lib.ListN.{length, getD, set, take, replicate}
-use lib.Seq.{length-take-le}
+use lib.ListN.{length, getD, set, replicate}
 use Rattle.places.specs.Places.{symbols, firstWhere, one, count}
 use Rattle.places.proofs.Searching.{first-passes, none-counted}
 use Rattle.places.proofs.Sums.{sum-set}
 use Rattle.symbols.specs.State.{nameBytes, paddedName, Entry, hasIndex, isVacant, placeAt, entryIn, entries, itself, placeOf, foundIn, vacancyOf, nobody}
 use Rattle.symbols.specs.Registering.{byteBad, nameBad, mostScale, registered, toldOf}
-use Rattle.symbols.specs.Promises.{Registers, Told}
+use Rattle.symbols.specs.Promises.{Registers}
 use Rattle.symbols.specs.declared.Place.{Place}
 use Rattle.symbols.specs.declared.Symbols.{Symbols}
 use Rattle.symbols.specs.declared.registering.Entered.{Entered}
 use Rattle.symbols.proofs.Finding.{is-none}
-use Rattle.symbols.proofs.Entries.{length-entries, nobody-there, entry-past, entry-there, withPlace, entries-set, sound-set, used-there}
-use Rattle.symbols.proofs.Padding.{length-padded, take-padded}
+use Rattle.symbols.proofs.Entries.{length-entries, nobody-there, entry-past, entry-there, withPlace, entries-set, used-there}
 
 -- a good name is not too long
 pub name-short : (name : List ℕ) → nameBad name ≡ false → length name ≤ nameBytes
@@ -75,37 +73,25 @@ module _ (b : Symbols) (index : ℕ) (name : List ℕ) (scale : ℕ) where
         pub enters : (k : ℕ) → k ≡ vacancyOf (entries b) → k < symbols → length (b .places) ≡ symbols → Registers b index name scale (record { symbols = withPlace b k (newPlace index name scale); answer = 0 })
         unfolding registered
         enters k e h eight =
-            let long = name-short name n in
             let l : ltb (vacancyOf (entries b)) symbols ≡ true = lt-ltb _ _ (rw e at h) in
             record {
               kept = λ z. absurd (z refl);
-              next = rw (le-ltb _ _ s, n, le-ltb _ _ u, l) (entries-set b k (newPlace index name scale) h eight ∙ ap (λ (m : ℕ). set (entries b) m (some (entryIn (newPlace index name scale)))) e ∙ ap (λ (l : List ℕ). set (entries b) (vacancyOf (entries b)) (some (record { index = index; name = l; scale = scale; standing = newPlace index name scale .standing }))) (take-padded name long));
+              next = rw (le-ltb _ _ s, n, le-ltb _ _ u, l) (entries-set b k (newPlace index name scale) h eight ∙ ap (λ (m : ℕ). set (entries b) m (some (entryIn (newPlace index name scale)))) e);
               answer = rw (le-ltb _ _ s, n, le-ltb _ _ u, l);
               wf = λ w. record {
-                sound = sound-set b k (newPlace index name scale) h eight (record { short = long; zeros = rw (take-padded name long) }) w;
                 once = λ i. rw (entries-set b k (newPlace index name scale) h eight) (entered-once k e h (entryIn (newPlace index name scale)) refl i (w .once i));
               };
             }
 
 -- ---- what is told of a symbol
 module _ (b : Symbols) (index : ℕ) where
-  pub told-missing : symbols ≤ placeOf itself index (entries b) → Told b index (record { answer = 5; name = replicate nameBytes 0; len = 0; scale = 0 })
+  pub told-missing : symbols ≤ placeOf itself index (entries b) → record { answer = 5; name = replicate nameBytes 0; len = 0; scale = 0 } ≡ toldOf (foundIn itself index (entries b))
   unfolding toldOf foundIn
-  told-missing h = let e = entry-past b (placeOf itself index (entries b)) h in record { answer = rw e; scale = rw e; obeys = λ w. rw e }
+  told-missing h = sym (ap toldOf (entry-past b (placeOf itself index (entries b)) h))
 
-  pub told-at : (k : ℕ) → k ≡ placeOf itself index (entries b) → k < symbols → Told b index (record { answer = 0; name = placeAt b k .name; len = placeAt b k .len; scale = placeAt b k .scale })
+  pub told-at : (k : ℕ) → k ≡ placeOf itself index (entries b) → k < symbols → record { answer = 0; name = placeAt b k .name; len = placeAt b k .len; scale = placeAt b k .scale } ≡ toldOf (foundIn itself index (entries b))
   unfolding toldOf foundIn
-  told-at k is h =
-      let there : foundIn itself index (entries b) ≡ some (entryIn (placeAt b k)) = ap (λ (n : ℕ). getD (entries b) n none) (sym is) ∙ entry-there b k h (used-there b index k is h) in
-      record {
-        answer = sym (ap (λ (x : Option Entry). toldOf x .answer) there);
-        scale = sym (ap (λ (x : Option Entry). toldOf x .scale) there);
-        obeys = λ w.
-            let s = w .sound k h in
-            let long : length (placeAt b k .name) ≡ nameBytes = ap length (s .zeros) ∙ length-padded _ in
-            let len : length (take (placeAt b k .len) (placeAt b k .name)) ≡ placeAt b k .len = length-take-le (placeAt b k .len) (placeAt b k .name) (rw long (s .short)) in
-            (λ i. record { answer = 0; name = s .zeros i; len = sym len i; scale = placeAt b k .scale }) ∙ sym (ap toldOf there);
-      }
+  told-at k is h = sym (ap toldOf (ap (λ (n : ℕ). getD (entries b) n none) (sym is) ∙ entry-there b k h (used-there b index k is h)))
 
 -- ---- a good symbol is taken into new symbols: there is such a result
 pub record SomeEntered (index : ℕ) (name : List ℕ) (scale : ℕ) : Type 0 where

@@ -4,14 +4,13 @@ use mathlib.Core.Option.{Option, none, some}
 use mathlib.Core.Path.{_≡_, refl, sym, ap, _∙_}
 use Prim.Native.Nat.{ℕ, _<_, _≤_}
 use native.Mathlib.Omega.{arith}
-use borrow.Author.Tests.{eqb-true, eqb-false}
 use lib.Dec.{eqb}
-use lib.ListN.{length, getD, set, List·getD-eq-default, replicate, getD-replicate}
+use lib.ListN.{length, getD, set, List·getD-eq-default, replicate}
 use lib.Seq.{getD-set-same, getD-set-other}
 use Rattle.places.specs.Places.{symbols, tabulate, firstWhere, sumBy, count}
 use Rattle.places.proofs.Tables.{length-tabulate, getD-tabulate, tabulate-but-one, first-alike}
 use Rattle.places.proofs.Searching.{first-passes}
-use Rattle.symbols.specs.State.{noSymbol, nowhere, Entry, placeAt, entryIn, entries, itself, hasIndex, isVacant, placeOf, vacancyOf, paddedName, Sound, Wf, nobody}
+use Rattle.symbols.specs.State.{nowhere, Entry, placeAt, entryIn, entries, itself, hasIndex, isVacant, placeOf, vacancyOf, Wf, nobody}
 use Rattle.symbols.specs.declared.Place.{Place}
 use Rattle.symbols.specs.declared.Symbols.{Symbols}
 
@@ -90,18 +89,7 @@ module _ (b : Symbols) (k : ℕ) (p : Place) (in-range : k < symbols) (eight : l
   unfolding entries
   entries-set = tabulate-but-one symbols _ _ k in-range (λ m l ne. rw (place-other m ne)) ∙ ap (λ (q : Place). set (entries b) k (seen (q .used) (entryIn q))) place-set
 
-  pub sound-set : Sound p → Wf b → (m : ℕ) → m < symbols → Sound (placeAt (withPlace b k p) m)
-  sound-set s w m l = go (eqb m k) refl
-    where
-      go : (t : Bool) → eqb m k ≡ t → Sound (placeAt (withPlace b k p) m)
-      go true e = rw (eqb-true m k e, place-set) s
-      go false e = rw (place-other m (eqb-false m k e)) (w .sound m l)
-
 -- ---- the new symbols
-no-symbol-sound : Sound noSymbol
-unfolding paddedName tabulate
-no-symbol-sound = record { short = omega arith; zeros = refl }
-
 pub nobody-there : entries nobody ≡ replicate symbols none
 unfolding entries tabulate
 nobody-there = refl
@@ -111,4 +99,4 @@ unfolding entries tabulate sumBy
 nobody-once index = omega arith
 
 pub nobody-sound : Wf nobody
-nobody-sound = record { sound = λ k h. rw (getD-replicate symbols k noSymbol nowhere h) no-symbol-sound; once = nobody-once }
+nobody-sound = record { once = nobody-once }

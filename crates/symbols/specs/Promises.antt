@@ -6,13 +6,12 @@ use mathlib.Core.Path.{_≡_}
 use Prim.Native.Nat.{ℕ, _≤_}
 use lib.ListN.{getD, set}
 use Rattle.places.specs.Places.{symbols}
-use Rattle.symbols.specs.State.{Entry, entries, itself, foundIn, Wf}
-use Rattle.symbols.specs.Registering.{registered, toldOf, ToldBy}
+use Rattle.symbols.specs.State.{Entry, entries, itself, Wf}
+use Rattle.symbols.specs.Registering.{registered}
 use Rattle.symbols.specs.Turns.{standingAt}
 use Rattle.symbols.specs.declared.Standing.{Standing}
 use Rattle.symbols.specs.declared.Symbols.{Symbols}
 use Rattle.symbols.specs.declared.registering.Entered.{Entered}
-use Rattle.symbols.specs.declared.registering.Listing.{Listing}
 
 -- refused, it hands back the symbols that came in
 pub record Registers (b : Symbols) (index : ℕ) (name : List ℕ) (scale : ℕ) (r : Entered) : Type 0 where
@@ -20,9 +19,6 @@ pub record Registers (b : Symbols) (index : ℕ) (name : List ℕ) (scale : ℕ)
   pub next : entries (r .symbols) ≡ registered itself itself (entries b) index name scale .view
   pub answer : r .answer ≡ registered itself itself (entries b) index name scale .answer
   pub wf : Wf b → Wf (r .symbols)
-
-abbrev pub Told : Symbols → ℕ → Listing → Type 0
-Told b index r = ToldBy (Wf b) (toldOf (foundIn itself index (entries b))) r
 
 -- ---- the entry at place k stands otherwise, and all others stay
 abbrev pub standingBy : (Standing → Standing) → Entry → Entry

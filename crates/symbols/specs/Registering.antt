@@ -2,7 +2,6 @@
 use mathlib.Core.Bool.{Bool, true, false, cond}
 use mathlib.Core.List.{List}
 use mathlib.Core.Option.{Option, none, some}
-use mathlib.Core.Path.{_≡_}
 use Prim.Native.Nat.{ℕ}
 use lib.Dec.{ltb, eqb}
 use lib.ListN.{length, set, replicate}
@@ -26,7 +25,7 @@ bad name scale = cond (ltb mostScale scale) true (nameBad name)
 
 -- what registering starts: number 1 expected, not stale, the mark there
 abbrev pub newEntry : ℕ → List ℕ → ℕ → Entry
-newEntry index name scale = record { index = index; name = name; scale = scale; standing = record { expected = 1; stale = false; whole = true } }
+newEntry index name scale = record { index = index; name = paddedName name; len = length name; scale = scale; standing = record { expected = 1; stale = false; whole = true } }
 
 -- ---- over whatever is kept of a symbol: the next places, and the answer
 pub record Next (S : Type 0) : Type 0 where
@@ -45,13 +44,7 @@ registeredIf false false true v s = record { view = set v (vacancyOf v) (some s)
 unfoldable pub registered : {S : Type 0} → (S → Entry) → (Entry → S) → List (Option S) → ℕ → List ℕ → ℕ → Next S
 registered entry started v index name scale = registeredIf (bad name scale) (ltb (placeOf entry index v) symbols) (ltb (vacancyOf v) symbols) v (started (newEntry index name scale))
 
--- ---- what is told of a registered symbol: its name with zeros after it, how long it is, and its scale; or 5
+-- ---- what is told of a registered symbol: its name as it is kept, how long that is, and its scale; or 5
 unfoldable pub toldOf : Option Entry → Listing
 toldOf none = record { answer = 5; name = replicate nameBytes 0; len = 0; scale = 0 }
-toldOf (some e) = record { answer = 0; name = paddedName (e .name); len = length (e .name); scale = e .scale }
-
--- a result that tells this: answer and scale of any state, the name of a sound one
-pub record ToldBy (sound : Type 0) (told r : Listing) : Type 0 where
-  pub answer : r .answer ≡ told .answer
-  pub scale : r .scale ≡ told .scale
-  pub obeys : sound → r ≡ told
+toldOf (some e) = record { answer = 0; name = e .name; len = e .len; scale = e .scale }

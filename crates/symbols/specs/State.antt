@@ -2,10 +2,9 @@
 use mathlib.Core.Bool.{Bool, true, false, cond}
 use mathlib.Core.List.{List, []}
 use mathlib.Core.Option.{Option, none, some}
-use mathlib.Core.Path.{_≡_}
-use Prim.Native.Nat.{ℕ, _≤_, _<_}
+use Prim.Native.Nat.{ℕ, _≤_}
 use lib.Dec.{eqb}
-use lib.ListN.{getD, take, replicate}
+use lib.ListN.{getD, replicate}
 use Rattle.places.specs.Places.{symbols, tabulate, firstWhere, count}
 use Rattle.symbols.specs.declared.Standing.{Standing}
 use Rattle.symbols.specs.declared.Place.{Place}
@@ -19,10 +18,11 @@ nameBytes = 11
 abbrev pub numbers : ℕ
 numbers = 4294967296
 
--- ---- what is kept of a symbol: its index, its name, the scale of its prices, and where it stands
+-- ---- what is kept of a symbol: its index, its name with zeros after it, how long that is, the scale of its prices, and where it stands
 pub record Entry : Type 0 where
   pub index : ℕ
   pub name : List ℕ
+  pub len : ℕ
   pub scale : ℕ
   pub standing : Standing
 
@@ -58,7 +58,7 @@ abbrev pub placeAt : Symbols → ℕ → Place
 placeAt b k = getD (b .places) k nowhere
 
 abbrev pub entryIn : Place → Entry
-entryIn p = record { index = p .index; name = take (p .len) (p .name); scale = p .scale; standing = p .standing }
+entryIn p = record { index = p .index; name = p .name; len = p .len; scale = p .scale; standing = p .standing }
 
 unfoldable pub entries : Symbols → List (Option Entry)
 entries b = tabulate symbols (λ k. cond (placeAt b k .used) (some (entryIn (placeAt b k))) none)
@@ -71,13 +71,8 @@ itself e = e
 unfoldable pub paddedName : List ℕ → List ℕ
 paddedName name = tabulate nameBytes (λ i. getD name i 0)
 
--- ---- what holds of every state: names are padded, and no index is registered twice
-pub record Sound (p : Place) : Type 0 where
-  pub short : p .len ≤ nameBytes
-  pub zeros : p .name ≡ paddedName (take (p .len) (p .name))
-
+-- ---- what holds of every state: no index is registered twice
 pub record Wf (b : Symbols) : Type 0 where
-  pub sound : (k : ℕ) → k < symbols → Sound (placeAt b k)
   pub once : (index : ℕ) → count (hasIndex itself index) (entries b) ≤ 1
 
 -- ---- the new symbols: nobody is registered

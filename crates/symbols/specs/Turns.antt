@@ -10,7 +10,7 @@ use Rattle.symbols.specs.declared.Standing.{Standing}
 -- ---- what becomes of a symbol
 -- the same entry, standing otherwise
 abbrev pub standingAt : Standing → Entry → Entry
-standingAt s e = record { index = e .index; name = e .name; scale = e .scale; standing = s }
+standingAt s e = record { index = e .index; name = e .name; len = e .len; scale = e .scale; standing = s }
 
 -- stale, and its record without the mark
 abbrev pub staled : Standing → Standing

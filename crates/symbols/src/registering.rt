@@ -9,8 +9,9 @@ use places::SYMBOLS;
 ghost use mathlib.Core.Path.{_≡_};
 ghost use mathlib.Core.Bool.{false, cond};
 ghost use lib.Dec.{eqb};
-ghost use Rattle.symbols.specs.State.{entries, itself, placeOf, vacancyOf};
-ghost use Rattle.symbols.specs.Promises.{Registers, Told};
+ghost use Rattle.symbols.specs.State.{entries, itself, placeOf, foundIn, vacancyOf};
+ghost use Rattle.symbols.specs.Registering.{toldOf};
+ghost use Rattle.symbols.specs.Promises.{Registers};
 
 // The largest price scale.
 const MOST_SCALE: u8 = 6;
@@ -84,7 +85,7 @@ impl Symbols {
 
     // What was registered under an index, or 5.
     pub fn told(self, index: u32) -> Listing
-        ensures { λ r. ⌜ Told self index r ⌝ }
+        ensures { λ r. ⌜ r ≡ toldOf (foundIn itself index (entries self)) ⌝ }
     {
         let k = self.place_of(index);
         if SYMBOLS <= k {

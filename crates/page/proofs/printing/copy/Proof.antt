@@ -1,27 +1,31 @@
 -- After i turns the buffer has the first i bytes of the line, and behind them its own.
-use Prim.Native.Nat.{_≤_, _-_}
-use mathlib.Core.Path.{_≡_, refl}
-use mathlib.Core.List.{_++_}
+use Prim.Native.Nat.{ℕ, _+_, _≤_, _-_}
+use native.Mathlib.Numerals.{add-one}
+use mathlib.Core.Path.{_≡_, refl, sym, ap, _∙_}
+use mathlib.Core.List.{List}
 use native.Mathlib.Omega.{arith}
-use lib.ListN.{length, take, drop, length-set}
+use lib.ListN.{length, getD, set, length-set}
+use lib.Seq.{paste, paste-zero, paste-suc}
 use denote.Ref.{now}
 use borrow.Author.Needs.{needs}
 use Rattle.columns.specs.Held.{room}
-use Rattle.page.proofs.Copying.{copy-more}
 use Rattle.page.proofs.printing.copy.Statement.{statement}
 use Rattle.page.proofs.printing.copy.Tie as tie
 
 abbrev Inv-loop : tie.InvT-loop
-Inv-loop out₀ n bytes i₀ out i = (i ≤ n) × (length bytes ≡ room) × (length out ≡ length out₀) × (out ≡ take i bytes ++ drop i out₀)
+Inv-loop out₀ at n bytes i₀ out i = (i ≤ n) × (length bytes ≡ room) × (length out ≡ length out₀) × (out ≡ paste out₀ at bytes i)
 
 abbrev μ-loop : tie.MeasureT-loop
-μ-loop out₀ n bytes i₀ out i = n - i
+μ-loop out₀ at n bytes i₀ out i = n - i
 
 loop-holds : tie.Need-loop-holds Inv-loop μ-loop
-loop-holds c = (search needs, search needs, refl, refl)
+loop-holds c = (search needs, search needs, refl, paste-zero (now (c .args .out)) (c .args .at) (c .args .t3))
 
 array-read-out : tie.Need-array-read-out Inv-loop μ-loop
 array-read-out c = search needs
+
+add-out : tie.Need-add-out Inv-loop μ-loop
+add-out c = omega (arith, c .before .before .pre, c .before .before .good)
 
 slice-write-out : tie.Need-slice-write-out Inv-loop μ-loop
 slice-write-out c = omega arith
@@ -39,7 +43,7 @@ loop-again c =
       search needs,
       search needs,
       simp length-set (search needs),
-      copy-more _ (now (a .out)) (a .t2) (k .loop .i) (omega arith) (omega arith) (k .loop .inv .3),
+      ap (λ (o : List ℕ). set o (a .at + k .loop .i) (getD (a .t3) (k .loop .i) 0)) (k .loop .inv .3) ∙ paste-suc (now (a .out)) (a .at) (a .t3) (k .loop .i) 0 (omega arith) (omega arith) ∙ ap (paste (now (a .out)) (a .at) (a .t3)) (sym (add-one (k .loop .i))),
     )
 
 same-length : tie.Need-same-length Inv-loop μ-loop
@@ -59,6 +63,7 @@ copy-spec =
     μ-loop
     loop-holds
     array-read-out
+    add-out
     slice-write-out
     add-i
     loop-less

@@ -26,7 +26,7 @@ copy-requires : tie.Need-copy-requires
 copy-requires c κs =
     let b = c .before .before .before .bytes in
     let long : length (b .result) ≡ room = search needs in
-    (omega (arith, c .before .before .count .ensures, within-its-bytes (b .ensures), long), c .before .if1 .left)
+    (omega (arith, c .before .before .count .ensures, within-its-bytes (b .ensures), long), omega (arith, c .before .if1 .left))
 
 same-length : tie.Need-same-length
 same-length c = search needs

@@ -5,8 +5,7 @@ use borrow.Author.Needs.{needs}
 use Rattle.book.specs.State.{view}
 use Rattle.book.specs.Registering.{toldIn}
 use Rattle.symbols.specs.declared.registering.Listing.{Listing}
-use Rattle.page.specs.Printing.{lineOf, RefusedAnyway, told}
-use Rattle.page.proofs.Cases.{line-refuses}
+use Rattle.page.specs.Printing.{lineOf, told}
 use Rattle.page.proofs.printing.line.Statement.{statement}
 use Rattle.page.proofs.printing.line.Tie as tie
 
@@ -27,14 +26,10 @@ asked : (k : tie.After-symbol) → toldIn (k .before .index-of .result) (view (k
 asked k = ap (λ i. toldIn i (view (k .before .before .before .args .book))) (k .before .index-of .ensures)
 
 returns : tie.Need-returns
-unfolding RefusedAnyway
 returns c =
     let k = c .before .before .before .before in
     let a = k .before .before .before .args in
-    let line = c .before .before .line-told .ensures in (
-      λ w. line ∙ ap (λ (s : Listing). lineOf s (a .m) (a .plain) (a .sequence) (a .second) (now (a .out))) (k .symbol .ensures .obeys w ∙ asked k),
-      λ n h e. line ∙ line-refuses (k .symbol .result) (told (a .book) (a .m)) (a .m) (a .plain) (a .sequence) (a .second) (now (a .out)) (k .symbol .ensures .answer ∙ ap (λ (s : Listing). s .answer) (asked k)) n h e,
-    )
+    c .before .before .line-told .ensures ∙ ap (λ (s : Listing). lineOf s (a .m) (a .plain) (a .sequence) (a .second) (now (a .out))) (k .symbol .ensures ∙ asked k)
 
 pub line-spec : {M : Type 1} → statement M
 line-spec =
