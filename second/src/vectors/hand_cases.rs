@@ -2,7 +2,6 @@
 
 use super::hand::{Hand, LARGEST_ROOM};
 use super::raw::{raw, raws, Raw};
-use super::read_cases::UNKNOWN;
 
 /// Every field good, with a byte of its own in every place, spare bytes too.
 fn distinct(kind: u16) -> Hand {
@@ -55,18 +54,7 @@ pub fn writes(calls: &mut Vec<u8>) {
         rooms(calls, &raw);
         fields(calls, &raw);
     }
-    lacking(calls);
-    for kind in UNKNOWN {
-        distinct(kind).push_call(calls, 16);
-    }
-    // A type outside the table, a bad field and no room: 3.
-    let hand = Hand {
-        nanoseconds: u32::MAX,
-        volume: 0,
-        ..distinct(0x0164)
-    };
-    hand.push_call(calls, 0);
-    hand.push_call(calls, LARGEST_ROOM);
+    others(calls);
 }
 
 fn rooms(calls: &mut Vec<u8>, raw: &Raw) {
@@ -112,9 +100,10 @@ fn fields(calls: &mut Vec<u8>, raw: &Raw) {
     }
 }
 
-/// Fields that a type lacks are not looked at: all of them bad at once.
-fn lacking(calls: &mut Vec<u8>) {
-    for raw in raws() {
+/// The other good values of the checked fields, all at once. The call has bad values for what a type
+/// lacks, but no typed message holds them: a type without such a field would be written as in `rooms`.
+fn others(calls: &mut Vec<u8>) {
+    for raw in raws().filter(Raw::has_checked_fields) {
         let good = distinct(raw.kind);
         let hand = Hand {
             flag: if raw.flag.is_some() { 0 } else { 0xFF },

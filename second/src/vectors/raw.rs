@@ -91,6 +91,11 @@ pub fn raw(kind: u16) -> Raw {
 }
 
 impl Raw {
+    /// Fields besides the nanoseconds that the writer is asked about: a volume, a side or a flag.
+    pub fn has_checked_fields(&self) -> bool {
+        self.volume.is_some() || self.side.is_some() || self.flag.is_some()
+    }
+
     /// A good message with another byte in every place.
     pub fn distinct(&self, start: u8) -> Vec<u8> {
         let mut bytes: Vec<u8> = (0..self.size)

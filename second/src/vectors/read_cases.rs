@@ -3,7 +3,7 @@
 use super::raw::{put_u16, put_u32, raw, raws, Raw};
 
 /// Type numbers outside the table; 0x0164 is 100 with a second byte.
-pub const UNKNOWN: [u16; 17] = [
+const UNKNOWN: [u16; 17] = [
     0, 1, 2, 3, 31, 33, 35, 99, 106, 109, 115, 223, 0x0120, 0x0164, 0x6400, 0x8064, 65535,
 ];
 
@@ -64,7 +64,6 @@ pub fn extents(calls: &mut Vec<u8>) {
         put_u16(&mut bytes, 0, size);
         push_extent(calls, 0, &bytes);
     }
-    push_extent(calls, 0, &[]);
     push_extent(calls, 1, &[]);
     push_extent(calls, 65535, &[]);
 }
@@ -81,7 +80,8 @@ pub fn decodes(calls: &mut Vec<u8>) {
 }
 
 fn short_slices(calls: &mut Vec<u8>) {
-    for length in 0..=3 {
+    push_decode(calls, &[]);
+    for length in 1..=3 {
         push_decode(calls, &[39, 0, 100][..length]);
         push_decode(calls, &[3, 0, 100][..length]);
     }
@@ -142,7 +142,10 @@ fn bad_fields(calls: &mut Vec<u8>, raw: &Raw) {
         for value in [0, 1, 2, 0x30, 0x31, 0x80, 0xFF] {
             let mut bytes = base.clone();
             bytes[flag] = value;
-            push_decode(calls, &bytes);
+            // The base itself stands above where it has a side.
+            if bytes != base || raw.side.is_none() {
+                push_decode(calls, &bytes);
+            }
         }
     }
 }
