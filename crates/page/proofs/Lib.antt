@@ -7,3 +7,4 @@ pub mod OneOutcome
 pub mod Printouts
 pub mod Sheets
 pub mod Passing
+pub mod DoneLines

@@ -90,7 +90,7 @@ first-complete [] ns c = tt
 first-complete (m ∷ ms) ns c = (c .0, first-complete ms ns (c .1))
 
 -- ---- so the messages laid stand at the front of the stream, and it ended for want of room, or as the walk did
-pub record Passes (b : Book) (part : List ℕ) (place second : ℕ) (r : Laid) (out : List ℕ) : Type 0 where
+pub record LaysMessages (b : Book) (part : List ℕ) (place second : ℕ) (r : Laid) (out : List ℕ) : Type 0 where
   pub laid : List (List ℕ)
   pub complete : AllComplete laid
   pub at : r .at ≡ length (flatten laid)
@@ -105,7 +105,7 @@ module _ (b : Book) (part : List ℕ) (place second : ℕ) (before : List ℕ) (
   shows : (text : List ℕ) (n : ℕ) → n ≡ length text → out ≡ text ++ drop (length text) before → take n out ≡ text
   shows text n e o = ap (take n) o ∙ take-at text (drop (length text) before) n (sym e)
 
-  pub lays-passes : Passes b part place second r out
+  pub lays-passes : LaysMessages b part place second r out
   unfolding layOf flatten
   lays-passes =
       let o = lays .obeys day w in
@@ -129,3 +129,23 @@ module _ (b : Book) (part : List ℕ) (place second : ℕ) (before : List ℕ) (
             (λ y. inr (o .answer ∙ y))
             (some .why);
       }
+
+-- ---- with room for one text a laying that ends for want of room has moved on
+abbrev opening : View → ℕ → ℕ → Sheet
+opening v at place = record { view = v; at = at; place = place; text = [] }
+
+moves-from : (second size stop : ℕ) (v : View) (at place : ℕ) → room ≤ size → stop ≤ 2 → (ms : List (List ℕ)) → AllComplete ms → layFrom second size stop (opening v at place) ms .answer ≡ 15 → at < layFrom second size stop (opening v at place) ms .sheet .at
+unfolding layFrom
+moves-from second size stop v at place fits small [] c e = absurd (omega (arith, e, small))
+moves-from second size stop v at place fits small (m ∷ ms) c e = go (ltb (size - 0) room) refl e
+  where
+    go : (full : Bool) → ltb (size - 0) room ≡ full → layFrom second size stop (opening v at place) (m ∷ ms) .answer ≡ 15 → at < layFrom second size stop (opening v at place) (m ∷ ms) .sheet .at
+    go true q e = absurd (omega (arith, ltb-true (size - 0) room q, fits))
+    go false q e =
+        let some = lays-some second size stop ms (more second (opening v at place) m) in
+        rw q (omega (arith, ap (λ (x : Sheet). x .at) (some .sheet), reached m (length m) (c .0) .least))
+
+pub lay-moves : (second size : ℕ) (v : View) (part : List ℕ) (at place : ℕ) → room ≤ size → layOf second size v part at place .answer ≡ 15 → at < layOf second size v part at place .sheet .at
+unfolding layOf
+lay-moves second size v part at place fits =
+    moves-from second size (walkOf part at .answer) v at place fits (reach-refuses (drop (walkOf part at .at) part) (walkOf part at .answer) (stops-there part at) .1) (walkOf part at .messages) (every-stream part at .complete)

@@ -24,14 +24,14 @@ use Rattle.page.specs.Laying.{layOf, Lays}
 use Rattle.page.specs.declared.Printed.{Printed}
 use Rattle.page.proofs.Cases.{laid-fits}
 use Rattle.page.specs.declared.laying.Laid.{Laid}
-use Rattle.page.proofs.Passing.{Passes, lays-passes}
+use Rattle.page.proofs.Passing.{LaysMessages, lays-passes}
 use Rattle.parts.specs.Carry.{Carry, carried, carryOf}
 use Rattle.parts.specs.Parts.{partRoom}
 use Rattle.parts.proofs.Carrying.{carry-within}
 use Rattle.parts.proofs.FullParts.{full-part-moves}
 use Rattle.parts.proofs.Walks.{walk-stops}
 use Rattle.painterend.specs.Program.{second}
-use Rattle.painterend.specs.Turn.{left, awaiting, Failed, Fills, Given, Ready, Interrupted, LaysPart, Ends, Turns, interrupted, lays-part, ends, Turn, LaysFilled, Unread, Heeds}
+use Rattle.painterend.specs.Turn.{left, awaiting, Failed, Brings, Given, Ready, Interrupted, LaysPart, Ends, Turns, interrupted, lays-part, ends, Turn, LaysFilled, Unread, Heeds}
 use Rattle.painterend.specs.declared.turns.State.{State}
 use Rattle.painterend.specs.declared.turns.Filled.{Filled}
 
@@ -45,7 +45,7 @@ take-bytes n s b i = go (ltb i n) refl
 
 module _ (l : Laid) (size : ℕ) (buffer sheet : List ℕ) (x : Laid) (out : List ℕ) (h : size ≤ length buffer) (g : Given l buffer sheet) (b : Bytes buffer) (same : length out ≡ length sheet)
     (lays : Lays (l .book) (take size buffer) 0 (l .place) second sheet x out) where
-  passes : Passes (l .book) (take size buffer) (l .place) second x out
+  passes : LaysMessages (l .book) (take size buffer) (l .place) second x out
   passes = lays-passes (l .book) (take size buffer) (l .place) second sheet x out lays (omega arith) (g .sound)
 
   long : length (take size buffer) ≡ size
@@ -178,12 +178,12 @@ clamped-within (pos k) n = omega arith
 clamped-within (negsuc k) n = omega arith
 
 -- within the buffer
-pub filled-within : (kept : ℕ) (before : List ℕ) (f : Filled) (after : List ℕ) → kept < length before → length after ≡ length before → Fills kept before f after → f .full ≤ length after
+pub filled-within : (kept : ℕ) (before : List ℕ) (f : Filled) (after : List ℕ) → kept < length before → length after ≡ length before → Brings kept before f after → f .full ≤ length after
 filled-within kept before f after h same x = omega (arith, x .counted .full, clamped-within (x .got) (length after - kept), h, same)
 
 module _ (l : Laid) (kept : ℕ) (before : List ℕ) (f : Filled) (after sheet : List ℕ) (r : State) (out : List ℕ) where
   -- what a read brought
-  pub turn-reads : kept < length before → length after ≡ length before → length out ≡ length sheet → l .answer ≡ 1 → Given l before sheet → Fills kept before f after → Heeds f l kept after sheet r out → Turn l (take kept before) r after out
+  pub turn-reads : kept < length before → length after ≡ length before → length out ≡ length sheet → l .answer ≡ 1 → Given l before sheet → Brings kept before f after → Heeds f l kept after sheet r out → Turn l (take kept before) r after out
   turn-reads h same alike one g x y = go (f .failed) refl (eqb (f .full) kept) refl
     where
       long : length (take kept before) ≡ kept

@@ -14,7 +14,7 @@ use Rattle.book.specs.declared.Book.{Book}
 use Rattle.book.specs.Walk.{Walk, AllComplete, walkOf, stepsOf}
 use Rattle.book.proofs.Walking.{steps-join}
 use Rattle.page.specs.Printout.{textsOf, closing, printedOf, printoutOf}
-use Rattle.page.proofs.Passing.{placeAfter, places-join, texts-join, flatten-join, complete-join, Passes, lays-passes}
+use Rattle.page.proofs.Passing.{placeAfter, places-join, texts-join, flatten-join, complete-join, LaysMessages, lays-passes}
 use Rattle.parts.specs.Parts.{partRoom, walkParts}
 use Rattle.parts.proofs.Walks.{walk-stops, walk-behind}
 use Rattle.parts.proofs.Cuts.{small-ends-the-file, cuts-do-not-matter}

@@ -40,7 +40,7 @@ pub record Counted (got : ℤ) (kept size : ℕ) (r : Filled) : Type 0 where
   pub failed : r .failed ≡ ltZ got (pos 0)
 
 -- a read leaves the bytes that are kept
-pub record Fills (kept : ℕ) (before : List ℕ) (r : Filled) (after : List ℕ) : Type 0 where
+pub record Brings (kept : ℕ) (before : List ℕ) (r : Filled) (after : List ℕ) : Type 0 where
   pub got : ℤ
   pub stays : take kept after ≡ take kept before
   pub counted : Counted got kept (length after) r

@@ -6,7 +6,7 @@ ghost use mathlib.Core.Path.{_≡_};
 ghost use Prim.Native.Nat.{_≤_, _<_};
 ghost use lib.ListN.{length, take};
 ghost use Rattle.columns.specs.Held.{room};
-ghost use Rattle.painterend.specs.Turn.{left, awaiting, Failed, Counted, Fills, Given, Ends, Ready, LaysFilled, Unread, Heeds, Turn};
+ghost use Rattle.painterend.specs.Turn.{left, awaiting, Failed, Counted, Brings, Given, Ends, Ready, LaysFilled, Unread, Heeds, Turn};
 
 // The index of the symbol that is registered.
 pub(crate) const INDEX: u32 = 7;
@@ -67,7 +67,7 @@ struct Filled {
 // Reads once, behind the bytes that are kept.
 fn fill(fd: i32, buffer: &mut [u8], kept: usize) -> Filled
     requires { ⌜ kept < length (now buffer) ⌝ }
-    ensures { λ r. ⌜ Fills kept (now (buffer .entry)) r (now (buffer .exit)) ⌝ }
+    ensures { λ r. ⌜ Brings kept (now (buffer .entry)) r (now (buffer .exit)) ⌝ }
 {
     let got = libc::read(fd, &mut buffer[kept..]);
     counted(got, kept, buffer)

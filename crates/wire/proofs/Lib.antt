@@ -9,3 +9,4 @@ pub mod RoundTrip
 pub mod OneOutcome
 pub mod Types
 pub mod Answers
+pub mod GoodFields

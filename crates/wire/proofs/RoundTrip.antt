@@ -58,14 +58,14 @@ suits (Message.Clear h s) l e w = at-row (Suits (Message.Clear h s)) 32 l e (rec
 suits (Message.Status h s) l e w = at-row (Suits (Message.Status h s)) 34 l e (record { fit = omega arith; again = refl })
 
 -- what was read of a type is a message of that type with those fields
-record Keeps (n : ℕ) (l : Layout) : Type 0 where
+pub record Keeps (n : ℕ) (l : Layout) : Type 0 where
   pub type : (s : List ℕ) → typeOf (messageOf (l .kind) (fieldsAt s l)) ≡ n
   pub fields : (s : List ℕ) → fieldsOf (messageOf (l .kind) (fieldsAt s l)) ≡ fieldsAt s l
 
 kept-row : AllRows Keeps table
 kept-row = (record { type = λ s. refl; fields = λ s. simp value-empty }, (record { type = λ s. refl; fields = λ s. simp value-empty }, (record { type = λ s. refl; fields = λ s. simp value-empty }, (record { type = λ s. refl; fields = λ s. simp value-empty }, (record { type = λ s. refl; fields = λ s. simp value-empty }, (record { type = λ s. refl; fields = λ s. simp value-empty }, (record { type = λ s. refl; fields = λ s. simp value-empty }, (record { type = λ s. refl; fields = λ s. simp value-empty }, (record { type = λ s. refl; fields = λ s. simp value-empty }, (record { type = λ s. refl; fields = λ s. simp value-empty }, (record { type = λ s. refl; fields = λ s. simp value-empty }, (record { type = λ s. refl; fields = λ s. simp value-empty }, (record { type = λ s. refl; fields = λ s. simp value-empty }, tt)))))))))))))
 
-keeps : (n : ℕ) (l : Layout) → shapeOf n ≡ Shape.Known l → Keeps n l
+pub keeps : (n : ℕ) (l : Layout) → shapeOf n ≡ Shape.Known l → Keeps n l
 keeps = by-rows Keeps kept-row
 
 -- ---- reading what was written
