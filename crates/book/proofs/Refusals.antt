@@ -1,6 +1,6 @@
 -- What a refusal does to the view is read off the clauses of the rule.
 use mathlib.Core.Bool.{Bool, true, false}
-use mathlib.Core.List.{List, [], _∷_}
+use mathlib.Core.List.{List}
 use mathlib.Core.Option.{Option, none, some}
 use mathlib.Core.Path.{_≡_, refl, sym, ap, _∙_}
 use Prim.Native.Nat.{ℕ}
@@ -17,7 +17,7 @@ use Rattle.symbols.specs.State.{placeOf, foundIn}
 use Rattle.book.specs.State.{Symbol, View, entryOf, symbolIn}
 use Rattle.orders.specs.Rules.{applyTo}
 use Rattle.book.specs.Step.{changeOf, dealOf, madeStale, enacted, meets, actAt, actOn, meant, stepOn, stepOf}
-use Rattle.book.specs.Promises.{unchanging}
+use Rattle.book.specs.Promises.{unchanging, staling, BecomesStale}
 use Rattle.orders.specs.declared.Order.{Order}
 use Rattle.book.specs.declared.acts.Effect.{Effect}
 use Rattle.record.specs.declared.Deal.{Deal}
@@ -57,10 +57,7 @@ refused-view v d = go (d .outcome)
     go (refused a) e = refl
 
 -- ---- 7, 9 and 10: the symbol becomes stale and its record loses the mark; nothing else changes
-abbrev pub staleAnswer : ℕ → Bool
-staleAnswer a = among a (7 ∷ 9 ∷ 10 ∷ [])
-
-ruled-stale : (s : Symbol) (stale below above : Bool) (x : Fit (List Order)) (d : Deal) → staleAnswer (enacted s d (ruled stale below above x) .answer) ≡ true → enacted s d (ruled stale below above x) .symbol ≡ madeStale s
+ruled-stale : (s : Symbol) (stale below above : Bool) (x : Fit (List Order)) (d : Deal) → staling (enacted s d (ruled stale below above x) .answer) ≡ true → enacted s d (ruled stale below above x) .symbol ≡ madeStale s
 unfolding enacted ruled among
 ruled-stale s true below above x d e = never e
 ruled-stale s false true above x d e = never e
@@ -69,20 +66,15 @@ ruled-stale s false false false misfit d e = refl
 ruled-stale s false false false no-room d e = refl
 ruled-stale s false false false (fits os) d e = never e
 
-meets-stale : (s : Symbol) (a : Act Effect) → staleAnswer (meets s a .answer) ≡ true → meets s a .symbol ≡ madeStale s
+meets-stale : (s : Symbol) (a : Act Effect) → staling (meets s a .answer) ≡ true → meets s a .symbol ≡ madeStale s
 unfolding meets among
 meets-stale s (clear index next) e = never e
 meets-stale s (numbered index n f) e = ruled-stale s (s .entry .standing .stale) (ltb n (s .entry .standing .expected)) (ltb (s .entry .standing .expected) n) (applyTo (s .orders) (changeOf f)) (dealOf f) e
 
-pub record BecomesStale (v : View) (index : ℕ) (w : View) : Type 0 where
-  pub symbol : Symbol
-  pub there : symbolIn index v ≡ some symbol
-  pub next-view : w ≡ set v (placeOf entryOf index v) (some (madeStale symbol))
-
-pub stale-view : (v : View) (a : Act Effect) → staleAnswer (actOn v a .answer) ≡ true → BecomesStale v (indexOf a) (actOn v a .view)
+pub stale-view : (v : View) (a : Act Effect) → staling (actOn v a .answer) ≡ true → BecomesStale v (indexOf a) (actOn v a .view)
 unfolding actOn among
 stale-view v a = go (symbolIn (indexOf a) v) refl
   where
-    go : (x : Option Symbol) → symbolIn (indexOf a) v ≡ x → staleAnswer (actAt v (placeOf entryOf (indexOf a) v) x a .answer) ≡ true → BecomesStale v (indexOf a) (actAt v (placeOf entryOf (indexOf a) v) x a .view)
+    go : (x : Option Symbol) → symbolIn (indexOf a) v ≡ x → staling (actAt v (placeOf entryOf (indexOf a) v) x a .answer) ≡ true → BecomesStale v (indexOf a) (actAt v (placeOf entryOf (indexOf a) v) x a .view)
     go none q e = never e
     go (some s) q e = record { symbol = s; there = q; next-view = ap (λ (t : Symbol). set v (placeOf entryOf (indexOf a) v) (some t)) (meets-stale s a e) }

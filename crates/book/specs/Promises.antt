@@ -4,17 +4,18 @@ use mathlib.Core.List.{[], _∷_}
 use mathlib.Core.Option.{some}
 use mathlib.Core.Path.{_≡_}
 use Prim.Native.Nat.{ℕ, _<_}
+use lib.ListN.{set}
 use Rattle.feed.specs.Reader.{ruled}
 use Rattle.places.specs.Places.{symbols, among}
-use Rattle.symbols.specs.State.{numbers, Entry}
+use Rattle.symbols.specs.State.{numbers, Entry, placeOf}
 use Rattle.symbols.specs.Registering.{Next}
 use Rattle.symbols.specs.Turns.{staled}
 use Rattle.symbols.specs.Promises.{Alters}
 use Rattle.orders.specs.Rules.{applyTo}
 use Rattle.orders.specs.declared.Change.{Change}
 use Rattle.record.specs.declared.Deal.{Deal}
-use Rattle.book.specs.State.{Symbol, entryAt, ordersAt, tradesAt, symbolOf, view, Wf}
-use Rattle.book.specs.Step.{changeOf, dealOf, enacted, put}
+use Rattle.book.specs.State.{Symbol, View, entryAt, ordersAt, tradesAt, symbolOf, view, entryOf, symbolIn, Wf}
+use Rattle.book.specs.Step.{changeOf, dealOf, madeStale, enacted, put}
 use Rattle.book.specs.declared.Book.{Book}
 use Rattle.book.specs.declared.Done.{Done}
 use Rattle.book.specs.declared.acts.Effect.{Effect}
@@ -22,6 +23,16 @@ use Rattle.book.specs.declared.acts.Effect.{Effect}
 -- the answers that change nothing
 abbrev pub unchanging : ℕ → Bool
 unchanging a = among a (1 ∷ 2 ∷ 3 ∷ 4 ∷ 5 ∷ 6 ∷ 8 ∷ 11 ∷ 12 ∷ 13 ∷ [])
+
+-- the answers that make a symbol stale
+abbrev pub staling : ℕ → Bool
+staling a = among a (7 ∷ 9 ∷ 10 ∷ [])
+
+-- the symbol with this index becomes stale and its record loses the mark; nothing else changes, of it or of another
+pub record BecomesStale (v : View) (index : ℕ) (w : View) : Type 0 where
+  pub symbol : Symbol
+  pub there : symbolIn index v ≡ some symbol
+  pub next-view : w ≡ set v (placeOf entryOf index v) (some (madeStale symbol))
 
 -- the next state is sound, its view is the rule's, and so is the answer
 pub record Obeys (x : Next Symbol) (b : Book) (a : ℕ) : Type 0 where

@@ -1,5 +1,5 @@
--- Demand 1: the numbers are those of the rules' clauses, and only the clause that is done brings other orders.
-use Prim.Native.Nat.{ℕ, _≤_}
+-- Demand 1: the numbers and what they leave are those of the rules' clauses, and where a message ends is read off its first bytes.
+use Prim.Native.Nat.{ℕ, _≤_, _<_}
 use native.Mathlib.Omega.{arith}
 use mathlib.Core.Bool.{Bool, true, false, cond, false≢true}
 use mathlib.Core.List.{List, [], _∷_}
@@ -7,98 +7,83 @@ use mathlib.Core.Logic.{_≢_}
 use mathlib.Core.Option.{Option, none, some}
 use mathlib.Core.Path.{_≡_, refl, sym, ap, _∙_}
 use lib.Dec.{ltb, eqb}
-use lib.ListN.{take, drop}
-use borrow.Author.Tests.{eqb-true, eqb-false}
-use Rattle.wire.specs.Outcome.{Outcome, done, refused}
-use Rattle.wire.specs.Reading.{msgType, reachOf, readOf}
+use lib.ListN.{length, take, drop}
+use borrow.Author.Tests.{eqb-true, eqb-false, ltb-true, ltb-false}
+use Rattle.wire.specs.Outcome.{Outcome, done, refused, numberOf}
+use Rattle.wire.specs.Reading.{leastSize, msgSize, reachOf, readOf}
+use Rattle.wire.specs.Writing.{countOf, Write, writeOf}
 use Rattle.wire.specs.declared.Message.{Message}
+use Rattle.wire.proofs.Cases.{done-is-not-refused, reached, reach-short, reach-small, reach-beyond, reach-size}
+use Rattle.wire.proofs.Refusing.{reach-refused, read-refused, reached-refused, write-refused, write-fills}
 use Rattle.feed.specs.Reader.{Fit, fits, misfit, no-room, ruled, Act, clear, numbered, indexOf}
 use Rattle.places.specs.Places.{among}
 use Rattle.symbols.specs.State.{placeOf}
-use Rattle.symbols.specs.Registering.{Next}
+use Rattle.symbols.specs.Registering.{Next, toldOf}
+use Rattle.symbols.specs.declared.registering.Listing.{Listing}
+use Rattle.symbols.proofs.Finding.{register-answers}
+use Rattle.orders.specs.Rules.{applyTo}
 use Rattle.book.specs.State.{Symbol, View, view, entryOf, symbolIn}
 use Rattle.book.specs.Step.{changeOf, dealOf, enacted, meets, actAt, actOn, meant, stepOn, stepOf}
-use Rattle.orders.specs.Rules.{applyTo}
-use Rattle.symbols.proofs.Finding.{register-answers}
-use Rattle.book.specs.Registering.{started}
-use Rattle.book.specs.Promises.{unchanging}
-use Rattle.book.specs.Walk.{moveBy, moveOf, walkOf}
+use Rattle.book.specs.Registering.{started, registerOf, toldIn, Told}
+use Rattle.book.specs.Promises.{unchanging, staling, Steps}
+use Rattle.book.specs.Walk.{landing, stopping, moveBy, moveOf, walkOf, runOf, Moves}
 use Rattle.book.specs.Reached.{Reached}
 use Rattle.book.specs.declared.Book.{Book}
-use Rattle.book.proofs.Answers.{quote-answers, volume-answers, told-answers}
+use Rattle.book.specs.declared.Done.{Done}
+use Rattle.book.specs.declared.walk.Moved.{Moved}
+use Rattle.book.proofs.Answers.{step-answers, quote-answers, quote-refused, volume-answers, volume-refused, told-answers, told-refused}
 use Rattle.book.proofs.Isolation.{unregistered-stays, own-symbol, own-symbol-only}
-use Rattle.book.proofs.Positions.{stops-there}
-use Rattle.book.proofs.Reaching.{reached-wf}
+use Rattle.book.proofs.Positions.{position-is-sum, stops-there}
+use Rattle.book.proofs.Reaching.{reached-wf, alike}
+use Rattle.book.proofs.Refusals.{stale-view}
 use Rattle.demands.specs.Reader.{Orders, Effect}
-use Rattle.demands.specs.Demand1.{liveOf, Demand1}
-use Rattle.wire.proofs.Answers.{Tells, read-tells, reach-refuses}
+use Rattle.demands.specs.Demand1.{OneOf, Answers, Numbers, liveOf, LeavesStale, Refusals, TooFew, no-size, cut, Stays, Passes, Positions, Demand1}
+use Rattle.demands.specs.Demand3.{StandsAt}
+use Rattle.demands.proofs.Demand3.{stands-acts}
 
--- ---- a message: at most 10, and no order changes unless it is done
-record OrdersKept (answer : ℕ) (before after : Orders) : Type 0 where
-  pub bound : answer ≤ 10
-  pub unless-done : answer ≢ 0 → after ≡ before
-
-ruled-keeps-orders : (s : Symbol) (stale below above : Bool) (x : Fit Orders) (d : _) → OrdersKept (enacted s d (ruled stale below above x) .answer) (s .orders) (enacted s d (ruled stale below above x) .symbol .orders)
-unfolding enacted ruled
-ruled-keeps-orders s true below above x d = record { bound = omega arith; unless-done = λ n. refl }
-ruled-keeps-orders s false true above x d = record { bound = omega arith; unless-done = λ n. refl }
-ruled-keeps-orders s false false true x d = record { bound = omega arith; unless-done = λ n. refl }
-ruled-keeps-orders s false false false misfit d = record { bound = omega arith; unless-done = λ n. refl }
-ruled-keeps-orders s false false false no-room d = record { bound = omega arith; unless-done = λ n. refl }
-ruled-keeps-orders s false false false (fits os) d = record { bound = omega arith; unless-done = λ n. absurd (n refl) }
-
-meets-keeps-orders : (s : Symbol) (a : Act Effect) → OrdersKept (meets s a .answer) (s .orders) (meets s a .symbol .orders)
-unfolding meets
-meets-keeps-orders s (clear index next) = record { bound = omega arith; unless-done = λ n. absurd (n refl) }
-meets-keeps-orders s (numbered index n e) = ruled-keeps-orders s (s .entry .standing .stale) (ltb n (s .entry .standing .expected)) (ltb (s .entry .standing .expected) n) (applyTo (s .orders) (changeOf e)) (dealOf e)
-
--- ---- the next view and the answer, of all symbols
-record AllOrdersKept (v : View) (x : Next Symbol) : Type 0 where
-  pub bound : x .answer ≤ 10
-  pub unless-done : x .answer ≢ 0 → (i : ℕ) → liveOf (symbolIn i (x .view)) ≡ liveOf (symbolIn i v)
-
-refusing-keeps : (v : View) (a : ℕ) → a ≤ 10 → AllOrdersKept v (record { view = v; answer = a })
-refusing-keeps v a h = record { bound = h; unless-done = λ n i. refl }
-
-module _ (v : View) (a : Act Effect) where
-  act-bound : actOn v a .answer ≤ 10
-  unfolding actOn
-  act-bound = go (symbolIn (indexOf a) v)
-    where
-      go : (x : Option Symbol) → actAt v (placeOf entryOf (indexOf a) v) x a .answer ≤ 10
-      go none = omega arith
-      go (some s) = meets-keeps-orders s a .bound
-
-  own-same : (x : Option Symbol) → symbolIn (indexOf a) v ≡ x → actAt v (placeOf entryOf (indexOf a) v) x a .answer ≢ 0 → liveOf (symbolIn (indexOf a) (actOn v a .view)) ≡ liveOf (symbolIn (indexOf a) v)
-  own-same none e n = ap (λ (w : View). liveOf (symbolIn (indexOf a) w)) (unregistered-stays v a e)
-  own-same (some s) e n = ap liveOf (own-symbol v a s e) ∙ meets-keeps-orders s a .unless-done n ∙ sym (ap liveOf e)
-
-  act-keeps : AllOrdersKept v (actOn v a)
-  unfolding actOn
-  act-keeps = record { bound = act-bound; unless-done = λ n i. go i n (eqb i (indexOf a)) refl }
-    where
-      go : (i : ℕ) → actOn v a .answer ≢ 0 → (own : Bool) → eqb i (indexOf a) ≡ own → liveOf (symbolIn i (actOn v a .view)) ≡ liveOf (symbolIn i v)
-      go i n true e = rw (eqb-true i (indexOf a) e) (own-same (symbolIn (indexOf a) v) refl n)
-      go i n false e = ap liveOf (own-symbol-only v a i (eqb-false i (indexOf a) e))
-
-step-keeps : (v : View) (m : List ℕ) → AllOrdersKept v (stepOf v (readOf m))
-unfolding stepOf
-step-keeps v m = go (readOf m .outcome) (read-tells m)
+-- ---- the numbers of `wire`
+reach-numbers : (s : List ℕ) → OneOf (0 ∷ 1 ∷ 2 ∷ []) (numberOf (reachOf s))
+unfolding among
+reach-numbers s = go (reachOf s) (reach-refused (OneOf (0 ∷ 1 ∷ 2 ∷ [])) refl refl s)
   where
-    go : (x : Outcome Message) → Tells (msgType m) x → AllOrdersKept v (stepOn v x)
-    go (done y) t = act-keeps v (meant y)
-    go (refused a) t = refusing-keeps v a (omega (arith, t .1))
+    go : (x : Outcome ℕ) → ((n : ℕ) → x ≡ refused n → OneOf (0 ∷ 1 ∷ 2 ∷ []) n) → OneOf (0 ∷ 1 ∷ 2 ∷ []) (numberOf x)
+    go (done n) h = refl
+    go (refused n) h = h n refl
 
-move-keeps : (v : View) (s : List ℕ) (at : ℕ) → AllOrdersKept v (moveOf v s at)
-unfolding moveOf
-move-keeps v s at = go (reachOf (drop at s)) refl
+read-numbers : (s : List ℕ) → OneOf (0 ∷ 1 ∷ 2 ∷ 3 ∷ 4 ∷ []) (numberOf (readOf s .outcome))
+unfolding among
+read-numbers s = go (readOf s .outcome) (λ n e. read-refused (OneOf (0 ∷ 1 ∷ 2 ∷ 3 ∷ 4 ∷ [])) refl refl refl s refl n e .number)
   where
-    go : (x : Outcome ℕ) → reachOf (drop at s) ≡ x → AllOrdersKept v (moveBy x v s at)
-    go (done n) e = step-keeps v (take n (drop at s))
-    go (refused a) e = refusing-keeps v a (omega (arith, reach-refuses (drop at s) a e .1))
+    go : (x : Outcome Message) → ((n : ℕ) → x ≡ refused n → OneOf (0 ∷ 1 ∷ 2 ∷ 3 ∷ 4 ∷ []) n) → OneOf (0 ∷ 1 ∷ 2 ∷ 3 ∷ 4 ∷ []) (numberOf x)
+    go (done m) h = refl
+    go (refused n) h = h n refl
+
+write-numbers : (m : Message) (plain out : List ℕ) → OneOf (0 ∷ 4 ∷ 15 ∷ []) (numberOf (writeOf m plain out .outcome))
+unfolding among
+write-numbers m plain out = go (writeOf m plain out .outcome) (λ n e. write-refused m plain out (OneOf (0 ∷ 4 ∷ 15 ∷ [])) refl refl n e .number)
+  where
+    go : (x : Outcome ℕ) → ((n : ℕ) → x ≡ refused n → OneOf (0 ∷ 4 ∷ 15 ∷ []) n) → OneOf (0 ∷ 4 ∷ 15 ∷ []) (numberOf x)
+    go (done m) h = refl
+    go (refused n) h = h n refl
+
+-- ---- the numbers of a message
+abbrev ofMessage : List ℕ
+ofMessage = 0 ∷ 1 ∷ 2 ∷ 3 ∷ 4 ∷ 5 ∷ 6 ∷ 7 ∷ 8 ∷ 9 ∷ 10 ∷ []
+
+move-numbers : (v : View) (s : List ℕ) (at : ℕ) → OneOf ofMessage (moveOf v s at .answer)
+unfolding moveOf among
+move-numbers v s at = go (reachOf (drop at s)) refl
+  where
+    go : (x : Outcome ℕ) → reachOf (drop at s) ≡ x → OneOf ofMessage (moveBy x v s at .answer)
+    go (done n) e = step-answers (OneOf ofMessage) (record { done = refl; size = refl; type = refl; field = refl; symbol = refl; below = refl; above = refl; stale = refl; fit = refl; room = refl }) v (drop at s) n e
+    go (refused k) e = reach-refused (OneOf ofMessage) refl refl (drop at s) k e
+
+-- ---- what is told of a symbol is what the rule says
+told-is : {b : Book} {r : Listing} → Reached b → (index : ℕ) → Told b index r → r ≡ toldIn index (view b)
+told-is p index t = t .obeys (reached-wf p)
 
 -- ---- a registering that is refused is one that changes nothing
-refused-registering : (a : ℕ) → among a (0 ∷ 11 ∷ 12 ∷ 13 ∷ []) ≡ true → a ≢ 0 → unchanging a ≡ true
+refused-registering : (a : ℕ) → OneOf (0 ∷ 11 ∷ 12 ∷ 13 ∷ []) a → a ≢ 0 → unchanging a ≡ true
 unfolding among
 refused-registering a h n = go (eqb a 0) (eqb a 11) (eqb a 12) (eqb a 13) refl refl refl refl h
   where
@@ -110,16 +95,200 @@ refused-registering a h n = go (eqb a 0) (eqb a 11) (eqb a 12) (eqb a 13) refl r
     go false false false true p q r t e = rw (eqb-true a 13 t)
     go false false false false p q r t e = absurd (false≢true e)
 
-pub demand-1-holds : {b : Book} → Reached b → Demand1 b
-demand-1-holds {b = b} p = record {
-  applying = λ {s = s} {at = at} m. rw (m .obeys (reached-wf p) .answer) (move-keeps (view b) s at .bound);
-  running = λ {s = s} {at = at} m. rw (m .answer) (reach-refuses (drop (walkOf s at .at) s) (walkOf s at .answer) (stops-there s at));
-  registering = λ index name scale m. rw (m .obeys (reached-wf p) .answer) (register-answers entryOf started (view b) index name scale);
-  quoting = quote-answers (view b);
-  summing = volume-answers (view b);
-  telling = λ index t. rw t (told-answers (view b) index);
-  registering-unchanged = λ index name scale m n. m .kept (refused-registering _ (rw (m .obeys (reached-wf p) .answer) (register-answers entryOf started (view b) index name scale)) n);
-  refused-unchanged = λ m. m .kept;
-  refused-no-order = λ {s = s} {at = at} m n index. let o = m .obeys (reached-wf p) in
-      ap (λ (v : View). liveOf (symbolIn index v)) (o .next-view) ∙ move-keeps (view b) s at .unless-done (λ z. n (o .answer ∙ z)) index;
-}
+-- ---- no order changes unless a message is done
+abbrev UnlessDone : ℕ → Orders → Orders → Type 0
+UnlessDone answer before after = answer ≢ 0 → after ≡ before
+
+ruled-keeps-orders : (s : Symbol) (stale below above : Bool) (x : Fit Orders) (d : _) → UnlessDone (enacted s d (ruled stale below above x) .answer) (s .orders) (enacted s d (ruled stale below above x) .symbol .orders)
+unfolding enacted ruled
+ruled-keeps-orders s true below above x d n = refl
+ruled-keeps-orders s false true above x d n = refl
+ruled-keeps-orders s false false true x d n = refl
+ruled-keeps-orders s false false false misfit d n = refl
+ruled-keeps-orders s false false false no-room d n = refl
+ruled-keeps-orders s false false false (fits os) d n = absurd (n refl)
+
+meets-keeps-orders : (s : Symbol) (a : Act Effect) → UnlessDone (meets s a .answer) (s .orders) (meets s a .symbol .orders)
+unfolding meets
+meets-keeps-orders s (clear index next) = λ n. absurd (n refl)
+meets-keeps-orders s (numbered index n e) = ruled-keeps-orders s (s .entry .standing .stale) (ltb n (s .entry .standing .expected)) (ltb (s .entry .standing .expected) n) (applyTo (s .orders) (changeOf e)) (dealOf e)
+
+-- of the next view, of all symbols
+abbrev NoneChanges : View → Next Symbol → Type 0
+NoneChanges v x = x .answer ≢ 0 → (i : ℕ) → liveOf (symbolIn i (x .view)) ≡ liveOf (symbolIn i v)
+
+module _ (v : View) (a : Act Effect) where
+  own-same : (x : Option Symbol) → symbolIn (indexOf a) v ≡ x → actAt v (placeOf entryOf (indexOf a) v) x a .answer ≢ 0 → liveOf (symbolIn (indexOf a) (actOn v a .view)) ≡ liveOf (symbolIn (indexOf a) v)
+  own-same none e n = ap (λ (w : View). liveOf (symbolIn (indexOf a) w)) (unregistered-stays v a e)
+  own-same (some s) e n = ap liveOf (own-symbol v a s e) ∙ meets-keeps-orders s a n ∙ sym (ap liveOf e)
+
+  act-keeps : NoneChanges v (actOn v a)
+  unfolding actOn
+  act-keeps n i = go (eqb i (indexOf a)) refl
+    where
+      go : (own : Bool) → eqb i (indexOf a) ≡ own → liveOf (symbolIn i (actOn v a .view)) ≡ liveOf (symbolIn i v)
+      go true e = rw (eqb-true i (indexOf a) e) (own-same (symbolIn (indexOf a) v) refl n)
+      go false e = ap liveOf (own-symbol-only v a i (eqb-false i (indexOf a) e))
+
+step-keeps : (v : View) (m : List ℕ) → NoneChanges v (stepOf v (readOf m))
+unfolding stepOf
+step-keeps v m = go (readOf m .outcome)
+  where
+    go : (x : Outcome Message) → NoneChanges v (stepOn v x)
+    go (done y) = act-keeps v (meant y)
+    go (refused a) = λ n i. refl
+
+move-keeps : (v : View) (s : List ℕ) (at : ℕ) → NoneChanges v (moveOf v s at)
+unfolding moveOf
+move-keeps v s at = go (reachOf (drop at s))
+  where
+    go : (x : Outcome ℕ) → NoneChanges v (moveBy x v s at)
+    go (done n) = step-keeps v (take n (drop at s))
+    go (refused a) = λ n i. refl
+
+-- ---- at a position of a stream, by the promise of `apply`
+module _ {b : Book} (p : Reached b) {s : List ℕ} {at : ℕ} {r : Moved} (m : Moves b s at r) where
+  -- 7, 9 and 10 are answered to a message that was read
+  not-staling : (k : ℕ) → _≡_ {A = Bool} (staling k) false → staling k ≡ true → ⊥
+  not-staling k e h = false≢true (sym e ∙ h)
+
+  answered : r .answer ≡ moveOf (view b) s at .answer
+  answered = m .obeys (reached-wf p) .answer
+
+  leaves-stale : staling (r .answer) ≡ true → LeavesStale b s at r
+  unfolding among moveOf stepOf
+  leaves-stale h = reaches (reachOf (drop at s)) refl
+    where
+      reads : (n : ℕ) → reachOf (drop at s) ≡ done n → (x : Outcome Message) → readOf (take n (drop at s)) .outcome ≡ x → LeavesStale b s at r
+      reads n e (refused k) f =
+          let number : r .answer ≡ k = answered ∙ ap (λ (y : Outcome ℕ). moveBy y (view b) s at .answer) e ∙ ap (λ (y : Outcome Message). stepOn (view b) y .answer) f in
+          absurd (reached-refused (λ (j : ℕ). staling j ≡ true → ⊥) (not-staling 2 refl) (not-staling 3 refl) (not-staling 4 refl) (drop at s) n e k f (rw number at h))
+      reads n e (done x) f =
+          let here : StandsAt s at (take n (drop at s)) = record { size = n; reaches = e; bytes = refl } in
+          let acts = stands-acts (view b) here f in
+          record {
+            bytes = take n (drop at s);
+            stands = here;
+            message = x;
+            read = f;
+            stale = rw (m .obeys (reached-wf p) .next-view, acts) (stale-view (view b) (meant x) (rw (answered, acts) at h));
+          }
+
+      reaches : (x : Outcome ℕ) → reachOf (drop at s) ≡ x → LeavesStale b s at r
+      reaches (refused k) e =
+          let number : r .answer ≡ k = answered ∙ ap (λ (y : Outcome ℕ). moveBy y (view b) s at .answer) e in
+          absurd (reach-refused (λ (j : ℕ). staling j ≡ true → ⊥) (not-staling 1 refl) (not-staling 2 refl) (drop at s) k e (rw number at h))
+      reaches (done n) e = reads n e (readOf (take n (drop at s)) .outcome) refl
+
+  -- how far it moves, by what reaches from there
+  stays : (n : ℕ) → reachOf (drop at s) ≡ refused n → Stays n at r
+  stays n e =
+      let stops : r .stops ≡ true = m .stops ∙ ap stopping e in
+      record { number = ap (λ (x : Moved). x .answer) (m .stopped stops) ∙ ap (numberOf {A = ℕ}) e; position = m .at ∙ ap (λ (x : Outcome ℕ). landing x at) e; stops = stops }
+
+  not-one : (n : ℕ) → reachOf (drop at s) ≡ done n → r .answer ≢ 1
+  unfolding moveOf
+  not-one n e one =
+      step-answers (λ (k : ℕ). k ≢ 1)
+      (record { done = λ z. omega (arith, z); size = λ z. omega (arith, z); type = λ z. omega (arith, z); field = λ z. omega (arith, z); symbol = λ z. omega (arith, z); below = λ z. omega (arith, z); above = λ z. omega (arith, z); stale = λ z. omega (arith, z); fit = λ z. omega (arith, z); room = λ z. omega (arith, z) })
+      (view b) (drop at s) n e (sym (answered ∙ ap (λ (y : Outcome ℕ). moveBy y (view b) s at .answer) e) ∙ one)
+
+  passes : (n : ℕ) → reachOf (drop at s) ≡ done n → Passes (msgSize (drop at s)) at r
+  passes n e =
+      let size = reached (drop at s) n e .size in
+      record { number = not-one n e; position = rw size (m .at ∙ ap (λ (x : Outcome ℕ). landing x at) e); goes-on = m .stops ∙ ap stopping e }
+
+  short : TooFew (drop at s) → Stays 1 at r
+  short (no-size h) = stays 1 (reach-short (drop at s) h)
+  short (cut least more) = go (ltb (length (drop at s)) leastSize) refl
+    where
+      go : (few : Bool) → ltb (length (drop at s)) leastSize ≡ few → Stays 1 at r
+      go true e = stays 1 (reach-short (drop at s) (ltb-true (length (drop at s)) leastSize e))
+      go false e = stays 1 (reach-beyond (drop at s) (ltb-false (length (drop at s)) leastSize e) least more)
+
+  small : leastSize ≤ length (drop at s) → msgSize (drop at s) < leastSize → Stays 2 at r
+  small four below = stays 2 (reach-small (drop at s) four below)
+
+  there : leastSize ≤ msgSize (drop at s) → msgSize (drop at s) ≤ length (drop at s) → Passes (msgSize (drop at s)) at r
+  there least all = passes (msgSize (drop at s)) (reach-size (drop at s) (omega (arith, least, all)) least all)
+
+  one-stays : r .answer ≡ 1 → Stays 1 at r
+  one-stays one = go (reachOf (drop at s)) refl
+    where
+      go : (x : Outcome ℕ) → reachOf (drop at s) ≡ x → Stays 1 at r
+      go (done n) e = absurd (not-one n e one)
+      go (refused n) e = let y = stays n e in record { number = one; position = y .position; stops = y .stops }
+
+  -- where nothing is reached, the answer is 1 or a 2 with a Msg Size below 4
+  unreached : (r .answer ≢ 1) → (r .answer ≡ 2 → leastSize ≤ msgSize (drop at s)) → (n : ℕ) → reachOf (drop at s) ≡ refused n → ⊥
+  unreached not more n e = go (ltb (length (drop at s)) leastSize) (ltb (msgSize (drop at s)) leastSize) (ltb (length (drop at s)) (msgSize (drop at s))) refl refl refl
+    where
+      go : (few below beyond : Bool) → ltb (length (drop at s)) leastSize ≡ few → ltb (msgSize (drop at s)) leastSize ≡ below → ltb (length (drop at s)) (msgSize (drop at s)) ≡ beyond → ⊥
+      go true below beyond q t u = not (short (no-size (ltb-true (length (drop at s)) leastSize q)) .number)
+      go false true beyond q t u =
+          let four = ltb-false (length (drop at s)) leastSize q in
+          let less = ltb-true (msgSize (drop at s)) leastSize t in
+          omega (arith, less, more (small four less .number))
+      go false false true q t u = not (short (cut (ltb-false (msgSize (drop at s)) leastSize t) (ltb-true (length (drop at s)) (msgSize (drop at s)) u)) .number)
+      go false false false q t u =
+          let reach = reach-size (drop at s) (ltb-false (length (drop at s)) leastSize q) (ltb-false (msgSize (drop at s)) leastSize t) (ltb-false (length (drop at s)) (msgSize (drop at s)) u) in
+          done-is-not-refused (sym e ∙ reach)
+
+  others-move : (r .answer ≢ 1) → (r .answer ≡ 2 → leastSize ≤ msgSize (drop at s)) → Passes (msgSize (drop at s)) at r
+  others-move not more = go (reachOf (drop at s)) refl
+    where
+      go : (x : Outcome ℕ) → reachOf (drop at s) ≡ x → Passes (msgSize (drop at s)) at r
+      go (done n) e = passes n e
+      go (refused n) e = absurd (unreached not more n e)
+
+-- ---- DEMAND 1
+module _ {b : Book} (p : Reached b) where
+  registering-number : {r : Done} (index : ℕ) (name : List ℕ) (scale : ℕ) → Steps b (registerOf (view b) index name scale) r → Answers (0 ∷ 11 ∷ 12 ∷ 13 ∷ []) (registerOf (view b) index name scale .answer) (r .answer)
+  registering-number index name scale m =
+      let number = m .obeys (reached-wf p) .answer in
+      record { one-of = rw number (register-answers entryOf started (view b) index name scale); by-rule = number }
+
+  numbers : Numbers b
+  unfolding among
+  numbers = record {
+    reaching = reach-numbers;
+    reading = read-numbers;
+    writing = write-numbers;
+    registering = registering-number;
+    applying = λ {s = s} {at = at} m. record { one-of = rw (answered p m) (move-numbers (view b) s at); by-rule = answered p m };
+    running = λ {s = s} {at = at} m. record { one-of = rw (m .answer) (reach-refused (OneOf (1 ∷ 2 ∷ [])) refl refl (drop (walkOf s at .at) s) (walkOf s at .answer) (stops-there s at)); by-rule = m .answer };
+    quoting = quote-answers (view b);
+    summing = volume-answers (view b);
+    telling = λ index t. rw (told-is p index t) (told-answers (view b) index);
+  }
+
+  refusals : Refusals b
+  unfolding toldOf runOf
+  refusals = record {
+    reading = λ s n e. read-refused (λ (k : ℕ). Unit {0}) tt tt tt s tt n e .nothing;
+    writing = λ m plain out n e. (ap (λ (w : Write). w .out) (write-refused m plain out (λ (k : ℕ). Unit {0}) tt tt n e .untouched), ap countOf e);
+    beyond = write-fills;
+    registering = λ index name scale m n. m .kept (refused-registering _ (registering-number index name scale m .one-of) n);
+    unchanged = λ m. m .kept;
+    made-stale = λ m. leaves-stale p m;
+    no-order-changes = λ {s = s} {at = at} m n index. ap (λ (v : View). liveOf (symbolIn index v)) (m .obeys (reached-wf p) .next-view) ∙ move-keeps (view b) s at (λ z. n (answered p m ∙ z)) index;
+    running = λ m. m .obeys (reached-wf p) .next-view;
+    unmoved = λ m. m .kept;
+    quoting = quote-refused (view b);
+    summing = volume-refused (view b);
+    telling = λ index t n. told-is p index t ∙ told-refused (view b) index (λ z. n (ap (λ (x : Listing). x .answer) (told-is p index t) ∙ z));
+  }
+
+  positions : Positions b
+  positions = record {
+    short = λ m. short p m;
+    small = λ m. small p m;
+    there = λ m. there p m;
+    one-stays = λ m. one-stays p m;
+    others-move = λ m. others-move p m;
+    running = λ {s = s} {from = from} {r = r} m. position-is-sum b s from r m;
+    stopped = λ {s = s} {from = from} m. rw (m .at, m .answer) (stops-there s from);
+  }
+
+  pub demand-1-holds : Demand1 b
+  demand-1-holds = record { numbers = numbers; refusals = refusals; positions = positions; same = alike b b (reached-wf p) (reached-wf p) refl }

@@ -14,8 +14,8 @@ use Rattle.wire.proofs.RoundTrip.{read-what-was-written, write-what-was-read}
 use Rattle.symbols.specs.Registering.{Next}
 use Rattle.book.specs.State.{Symbol, View, view, symbolIn}
 use Rattle.book.specs.Quote.{quoted, quoteOf, sideOf}
-use Rattle.book.specs.Step.{buys, actOn, meant, stepOn, stepOf}
-use Rattle.book.specs.Walk.{moveOf, walkOf, stepsOf, runOf, Moves, Runs}
+use Rattle.book.specs.Step.{buys, meant, stepOf}
+use Rattle.book.specs.Walk.{walkOf, stepsOf, runOf, Moves, Runs}
 use Rattle.book.specs.Reached.{Reached}
 use Rattle.book.specs.declared.Book.{Book}
 use Rattle.orders.specs.declared.levels.Level.{Level}
@@ -29,12 +29,7 @@ use Rattle.book.proofs.Marks.{apply-mark, run-mark}
 use Rattle.book.proofs.Reaching.{reached-wf}
 use Rattle.demands.specs.Demand2.{OfSymbol, OfMessage, AllNotFor, OfRun, Demand2, RoundTrips}
 use Rattle.demands.specs.Demand3.{StandsAt, quoteIn}
-use Rattle.demands.proofs.Demand3.{stands-step}
-
--- a message that stands there and is read is one act
-stands-acts : (v : View) {s : List ℕ} {at : ℕ} {m : List ℕ} {x : Message} → StandsAt s at m → readOf m .outcome ≡ done x → moveOf v s at ≡ actOn v (meant x)
-unfolding stepOf
-stands-acts v t e = stands-step v t ∙ ap (stepOn v) e
+use Rattle.demands.proofs.Demand3.{stands-acts}
 
 -- what is quoted at a price is of a registered symbol
 record Quoted (index : ℕ) (v : View) : Type 0 where

@@ -2,15 +2,16 @@
 use mathlib.Core.List.{List}
 use mathlib.Core.Path.{_≡_, refl, sym, ap, _∙_}
 use Prim.Native.Nat.{ℕ}
-use Rattle.wire.specs.Outcome.{Outcome}
+use Rattle.wire.specs.Outcome.{Outcome, done}
 use Rattle.wire.specs.Reading.{readOf}
+use Rattle.wire.specs.declared.Message.{Message}
 use Rattle.feed.specs.Reader.{indexOf, quote}
 use Rattle.feed.specs.Feed.{phase, first, second}
 use Rattle.feed.specs.Demand3 as feed
 use Rattle.feed.proofs.Demand3.{demand-3}
 use Rattle.symbols.specs.Registering.{Next}
 use Rattle.book.specs.State.{Symbol, View, view, Wf}
-use Rattle.book.specs.Step.{actOn, stepOf}
+use Rattle.book.specs.Step.{actOn, meant, stepOn, stepOf}
 use Rattle.book.specs.Quote.{quoteOf}
 use Rattle.book.specs.Walk.{moveBy, moveOf, stepsOf, runOf, Moves}
 use Rattle.book.specs.declared.Book.{Book}
@@ -30,6 +31,11 @@ use Rattle.demands.proofs.Translating.{steps-last, first-steps, second-
 pub stands-step : (v : View) {s : List ℕ} {at : ℕ} {m : List ℕ} → StandsAt s at m → moveOf v s at ≡ stepOf v (readOf m)
 unfolding moveOf
 stands-step v {s = s} {at = at} t = ap (λ (x : Outcome ℕ). moveBy x v s at) (t .reaches) ∙ ap (λ (b : List ℕ). stepOf v (readOf b)) (t .bytes)
+
+-- and one that is read is one act
+pub stands-acts : (v : View) {s : List ℕ} {at : ℕ} {m : List ℕ} {x : Message} → StandsAt s at m → readOf m .outcome ≡ done x → moveOf v s at ≡ actOn v (meant x)
+unfolding stepOf
+stands-acts v t e = stands-step v t ∙ ap (stepOn v) e
 
 -- ---- the state after some messages, by the calls' promises
 pub record After (b : Book) (ms : List (List ℕ)) (r : Book) : Type 0 where

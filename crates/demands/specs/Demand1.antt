@@ -1,38 +1,128 @@
--- Demand 1 of document 00, of every state that the calls can be given: which numbers each call can answer with, and what a refusal leaves.
-use Prim.Native.Nat.{ℕ, _≤_}
-use mathlib.Core.Bool.{true}
+-- Demand 1 of document 00, for a host's programmer: the numbers that each call answers with, what a refusal leaves, and how far each answer moves.
+use Prim.Native.Nat.{ℕ, _+_, _≤_, _<_}
+use mathlib.Core.Bool.{true, false}
 use mathlib.Core.List.{List, [], _∷_}
 use mathlib.Core.Logic.{_≢_}
 use mathlib.Core.Option.{Option, none, some}
 use mathlib.Core.Path.{_≡_}
-use Rattle.places.specs.Places.{among}
+use lib.ListN.{length, drop, replicate}
+use Rattle.wire.specs.Outcome.{done, refused, numberOf}
+use Rattle.wire.specs.Bytes.{plainRoom}
+use Rattle.wire.specs.Reading.{leastSize, msgSize, reachOf, noMessage, readOf}
+use Rattle.wire.specs.Writing.{countOf, Fills, writeOf}
+use Rattle.wire.specs.declared.Message.{Message}
+use Rattle.feed.specs.Reader.{indexOf}
+use Rattle.places.specs.Places.{among, sumBy}
+use Rattle.symbols.specs.State.{nameBytes}
+use Rattle.symbols.specs.declared.registering.Listing.{Listing}
 use Rattle.book.specs.State.{Symbol, view, symbolIn}
-use Rattle.book.specs.Promises.{unchanging, Steps}
+use Rattle.book.specs.Promises.{unchanging, staling, BecomesStale, Steps}
 use Rattle.book.specs.Registering.{registerOf, toldIn}
-use Rattle.book.specs.Quote.{quoteOf, volumeOf}
-use Rattle.book.specs.Walk.{Moves, Runs}
+use Rattle.book.specs.Quote.{noQuote, volumeOf}
+use Rattle.book.specs.Step.{meant}
+use Rattle.book.specs.Walk.{moveOf, walkOf, stepsOf, Moves, Runs}
+use Rattle.book.specs.Reached.{Alike}
 use Rattle.book.specs.declared.Book.{Book}
 use Rattle.book.specs.declared.Done.{Done}
-use Rattle.symbols.specs.declared.registering.Listing.{Listing}
 use Rattle.book.specs.declared.walk.Moved.{Moved}
 use Rattle.book.specs.declared.walk.Ran.{Ran}
 use Rattle.demands.specs.Reader.{Orders}
+use Rattle.demands.specs.Demand3.{StandsAt, quoteIn}
 
+-- ---- the numbers: a call answers with one of its own, and where a rule decides which, with the rule's
+abbrev pub OneOf : List ℕ → ℕ → Type 0
+OneOf numbers answer = among answer numbers ≡ true
+
+pub record Answers (numbers : List ℕ) (rule answer : ℕ) : Type 0 where
+  pub one-of : OneOf numbers answer
+  pub by-rule : answer ≡ rule
+
+pub record Numbers (b : Book) : Type 0 where
+  -- `wire`: how far a message reaches, reading one, and writing one, whose type is always known
+  pub reaching : (s : List ℕ) → OneOf (0 ∷ 1 ∷ 2 ∷ []) (numberOf (reachOf s))
+  pub reading : (s : List ℕ) → OneOf (0 ∷ 1 ∷ 2 ∷ 3 ∷ 4 ∷ []) (numberOf (readOf s .outcome))
+  pub writing : (m : Message) (plain out : List ℕ) → OneOf (0 ∷ 4 ∷ 15 ∷ []) (numberOf (writeOf m plain out .outcome))
+  -- `book`: registering, a message, a run, and the questions
+  pub registering : {r : Done} (index : ℕ) (name : List ℕ) (scale : ℕ) → Steps b (registerOf (view b) index name scale) r → Answers (0 ∷ 11 ∷ 12 ∷ 13 ∷ []) (registerOf (view b) index name scale .answer) (r .answer)
+  pub applying : {s : List ℕ} {at : ℕ} {r : Moved} → Moves b s at r → Answers (0 ∷ 1 ∷ 2 ∷ 3 ∷ 4 ∷ 5 ∷ 6 ∷ 7 ∷ 8 ∷ 9 ∷ 10 ∷ []) (moveOf (view b) s at .answer) (r .answer)
+  pub running : {s : List ℕ} {at : ℕ} {r : Ran} → Runs b s at r → Answers (1 ∷ 2 ∷ []) (walkOf s at .answer) (r .answer)
+  pub quoting : (index : ℕ) → OneOf (0 ∷ 5 ∷ 8 ∷ []) (quoteIn b index .answer)
+  pub summing : (index : ℕ) → OneOf (0 ∷ 5 ∷ []) (volumeOf index (view b) .answer)
+  pub telling : {r : Listing} (index : ℕ) → r ≡ toldIn index (view b) → OneOf (0 ∷ 5 ∷ []) (r .answer)
+
+-- ---- what a refusal leaves
 -- a symbol's live orders; none if it is not registered
 abbrev pub liveOf : Option Symbol → Orders
 liveOf none = []
 liveOf (some s) = s .orders
 
+-- the message at the position was read; its symbol becomes stale and loses its mark, and nothing else changes
+pub record LeavesStale (b : Book) (s : List ℕ) (at : ℕ) (r : Moved) : Type 0 where
+  pub bytes : List ℕ
+  pub stands : StandsAt s at bytes
+  pub message : Message
+  pub read : readOf bytes .outcome ≡ done message
+  pub stale : BecomesStale (view b) (indexOf (meant message)) (view (r .book))
+
+-- nothing was told: no name, and zeros
+abbrev pub noListing : Listing
+noListing = record { answer = 5; name = replicate nameBytes 0; len = 0; scale = 0 }
+
+pub record Refusals (b : Book) : Type 0 where
+  -- a refused read hands back no message, and zeros for its byte array
+  pub reading : (s : List ℕ) (number : ℕ) → readOf s .outcome ≡ refused number → readOf s ≡ noMessage number
+  -- a refused write leaves the buffer and counts no byte; and no write changes a byte beyond its count
+  pub writing : (m : Message) (plain out : List ℕ) (number : ℕ) → writeOf m plain out .outcome ≡ refused number → (writeOf m plain out .out ≡ out) × (countOf (writeOf m plain out .outcome) ≡ 0)
+  pub beyond : (m : Message) (plain out : List ℕ) → length plain ≡ plainRoom → Fills out (writeOf m plain out)
+  -- a refused registering hands back the state that came in
+  pub registering : {r : Done} (index : ℕ) (name : List ℕ) (scale : ℕ) → Steps b (registerOf (view b) index name scale) r → r .answer ≢ 0 → r .book ≡ b
+  -- so do 1 to 6 and 8 of a message; 7, 9 and 10 make its symbol stale; and no refusal changes an order
+  pub unchanged : {s : List ℕ} {at : ℕ} {r : Moved} → Moves b s at r → unchanging (r .answer) ≡ true → r .book ≡ b
+  pub made-stale : {s : List ℕ} {at : ℕ} {r : Moved} → Moves b s at r → staling (r .answer) ≡ true → LeavesStale b s at r
+  pub no-order-changes : {s : List ℕ} {at : ℕ} {r : Moved} → Moves b s at r → r .answer ≢ 0 → (index : ℕ) → liveOf (symbolIn index (view (r .book))) ≡ liveOf (symbolIn index (view b))
+  -- the stop of a run changes nothing: its state is what the messages passed make, each as above; with none passed, the one that came in
+  pub running : {s : List ℕ} {from : ℕ} {r : Ran} → Runs b s from r → view (r .book) ≡ stepsOf (view b) (walkOf s from .messages)
+  pub unmoved : {s : List ℕ} {from : ℕ} {r : Ran} → Runs b s from r → r .at ≡ from → r .book ≡ b
+  -- a refused quote shows none on both sides, a refused volume is 0 and not whole, and of a symbol that is not registered nothing is told
+  pub quoting : (index : ℕ) → quoteIn b index .answer ≢ 0 → quoteIn b index ≡ noQuote (quoteIn b index .answer)
+  pub summing : (index : ℕ) → volumeOf index (view b) .answer ≢ 0 → volumeOf index (view b) ≡ record { answer = 5; shares = 0; whole = false }
+  pub telling : {r : Listing} (index : ℕ) → r ≡ toldIn index (view b) → r .answer ≢ 0 → r ≡ noListing
+
+-- ---- how far an answer moves: the bytes from the position on decide
+-- fewer than four bytes remain, or Msg Size exceeds what remains
+pub data TooFew (s : List ℕ) : Type 0 where
+  no-size : length s < leastSize → TooFew s
+  cut : leastSize ≤ msgSize s → length s < msgSize s → TooFew s
+
+-- it answers this, doesn't move, and is where a run stops
+pub record Stays (answer at : ℕ) (r : Moved) : Type 0 where
+  pub number : r .answer ≡ answer
+  pub position : r .at ≡ at
+  pub stops : r .stops ≡ true
+
+-- it moves by so many bytes, and a run goes on; too few bytes are not its answer
+pub record Passes (size at : ℕ) (r : Moved) : Type 0 where
+  pub number : r .answer ≢ 1
+  pub position : r .at ≡ at + size
+  pub goes-on : r .stops ≡ false
+
+pub record Positions (b : Book) : Type 0 where
+  -- too few bytes: 1, and Msg Size below 4: 2, neither of which moves
+  pub short : {s : List ℕ} {at : ℕ} {r : Moved} → Moves b s at r → TooFew (drop at s) → Stays 1 at r
+  pub small : {s : List ℕ} {at : ℕ} {r : Moved} → Moves b s at r → leastSize ≤ length (drop at s) → msgSize (drop at s) < leastSize → Stays 2 at r
+  -- a message that is all there moves by its Msg Size, whatever is answered
+  pub there : {s : List ℕ} {at : ℕ} {r : Moved} → Moves b s at r → leastSize ≤ msgSize (drop at s) → msgSize (drop at s) ≤ length (drop at s) → Passes (msgSize (drop at s)) at r
+  -- so 1 never moves, and every other answer but a 2 with a Msg Size below 4 has moved by the Msg Size
+  pub one-stays : {s : List ℕ} {at : ℕ} {r : Moved} → Moves b s at r → r .answer ≡ 1 → Stays 1 at r
+  pub others-move : {s : List ℕ} {at : ℕ} {r : Moved} → Moves b s at r → r .answer ≢ 1 → (r .answer ≡ 2 → leastSize ≤ msgSize (drop at s)) → Passes (msgSize (drop at s)) at r
+  -- a run has moved by the Msg Sizes passed, and the bytes there are why it stopped
+  pub running : {s : List ℕ} {from : ℕ} {r : Ran} → Runs b s from r → r .at ≡ from + sumBy msgSize (walkOf s from .messages)
+  pub stopped : {s : List ℕ} {from : ℕ} {r : Ran} → Runs b s from r → reachOf (drop (r .at) s) ≡ refused (r .answer)
+
+-- DEMAND 1, of every state that the calls can be given
 pub record Demand1 (b : Book) : Type 0 where
-  -- the numbers that each call can answer with
-  pub applying : {s : List ℕ} {at : ℕ} {r : Moved} → Moves b s at r → r .answer ≤ 10
-  pub running : {s : List ℕ} {at : ℕ} {r : Ran} → Runs b s at r → (1 ≤ r .answer) × (r .answer ≤ 2)
-  pub registering : {r : Done} (index : ℕ) (name : List ℕ) (scale : ℕ) → Steps b (registerOf (view b) index name scale) r → among (r .answer) (0 ∷ 11 ∷ 12 ∷ 13 ∷ []) ≡ true
-  pub quoting : (index : ℕ) → among (quoteOf index (view b) .answer) (0 ∷ 5 ∷ 8 ∷ []) ≡ true
-  pub summing : (index : ℕ) → among (volumeOf index (view b) .answer) (0 ∷ 5 ∷ []) ≡ true
-  pub telling : {r : Listing} (index : ℕ) → r ≡ toldIn index (view b) → among (r .answer) (0 ∷ 5 ∷ []) ≡ true
-  -- a refused registering leaves the state as it was
-  pub registering-unchanged : {r : Done} (index : ℕ) (name : List ℕ) (scale : ℕ) → Steps b (registerOf (view b) index name scale) r → r .answer ≢ 0 → r .book ≡ b
-  -- 1 to 6 and 8 leave the state as it was, and no refusal changes an order
-  pub refused-unchanged : {s : List ℕ} {at : ℕ} {r : Moved} → Moves b s at r → unchanging (r .answer) ≡ true → r .book ≡ b
-  pub refused-no-order : {s : List ℕ} {at : ℕ} {r : Moved} → Moves b s at r → r .answer ≢ 0 → (index : ℕ) → liveOf (symbolIn index (view (r .book))) ≡ liveOf (symbolIn index (view b))
+  pub numbers : Numbers b
+  pub refusals : Refusals b
+  pub positions : Positions b
+  -- and it is the same every time: called twice in this state, a call answers, moves and leaves alike
+  pub same : Alike b b

@@ -56,6 +56,18 @@ module _ (l : Layout) (sane : Sane l) (type : ℕ) (f : Fields) (plain rest : Li
         length-littleEndian (l .size - l .pad) 0,
       )
 
+  pub image-long : length (imageOf l type f plain) ≡ l .size
+  unfolding imageOf
+  image-long =
+      omega (
+        arith,
+        length-append (numbers ++ array) last,
+        length-append numbers array,
+        length-numbers,
+        length-array,
+        length-littleEndian (l .size - l .pad) 0,
+      )
+
   pub image-array : slice (l .plain) (l .pad) stream ≡ array
   image-array = rw in-three (slice-between numbers array (last ++ rest) (l .plain) (l .pad) length-numbers (omega arith) length-array)
 

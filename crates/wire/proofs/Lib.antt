@@ -10,3 +10,4 @@ pub mod OneOutcome
 pub mod Types
 pub mod Answers
 pub mod GoodFields
+pub mod Refusing

@@ -17,7 +17,7 @@ use Rattle.wire.specs.Message.{fieldsOf, typeOf}
 use Rattle.wire.specs.Writing.{writeSized, writeBy, writeShape, writeOf}
 use Rattle.wire.proofs.Cases.{done-is-not-refused}
 
-abbrev IsKnown : Shape → Type 0
+abbrev pub IsKnown : Shape → Type 0
 IsKnown Shape.Unknown = ⊥
 IsKnown (Shape.Known l) = Unit {0}
 

@@ -1,7 +1,8 @@
 -- Writing a message: document 01, "A written message checks 3, 4, then 15".
-use Prim.Native.Nat.{ℕ, _-_}
+use Prim.Native.Nat.{ℕ, _-_, _≤_}
 use mathlib.Core.List.{List, _++_}
 use mathlib.Core.Bool.{Bool, true, false}
+use mathlib.Core.Path.{_≡_}
 use lib.ListN.{length, take, drop}
 use lib.Dec.{ltb}
 use Rattle.wire.specs.Outcome.{Outcome, done, refused}
@@ -38,6 +39,12 @@ wrote w out = record { outcome = wroteAs w; out = out }
 
 abbrev pub refuse : ℕ → List ℕ → Write
 refuse n out = record { outcome = refused n; out = out }
+
+-- a write that leaves the buffer as long as it was, counts no more bytes than that, and changes none beyond the count
+pub record Fills (out : List ℕ) (w : Write) : Type 0 where
+  pub long : length (w .out) ≡ length out
+  pub within : countOf (w .outcome) ≤ length out
+  pub beyond : drop (countOf (w .outcome)) (w .out) ≡ drop (countOf (w .outcome)) out
 
 -- the bytes of a message: its numbers, its byte array at the type's own width, and zero in the reserved byte at the end
 unfoldable pub imageOf : Layout → ℕ → Fields → List ℕ → List ℕ
