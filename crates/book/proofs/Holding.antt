@@ -1,6 +1,8 @@
 -- What is live lies in a symbol's places, a number at most once.
+use mathlib.Core.Bool.{true}
+use mathlib.Core.List.{List·Memᴰ}
 use mathlib.Core.Option.{Option, some}
-use mathlib.Core.Path.{_≡_, refl, sym, _∙_}
+use mathlib.Core.Path.{_≡_, refl, sym, _∙_, subst}
 use Prim.Native.Nat.{ℕ, _<_, _≤_}
 use lib.Dec.{eqb}
 use lib.ListN.{length}
@@ -8,6 +10,7 @@ use Rattle.places.specs.Places.{symbols, count}
 use Rattle.symbols.specs.State.{placeOf}
 use Rattle.symbols.proofs.Finding.{place-within}
 use Rattle.orders.specs.State.{ordersEach, orderNumber}
+use Rattle.orders.specs.declared.Order.{Order}
 use Rattle.orders.proofs.Holding as orders-room
 use Rattle.orders.proofs.Holding.{live-within}
 use Rattle.record.specs.State.{tradesEach, tradeNumber}
@@ -33,6 +36,10 @@ module _ (b : Book) (index : ℕ) (s : Symbol) (e : symbolIn index (view b) ≡ 
 
   pub trades-within : length (s .trades) ≤ tradesEach
   trades-within = rw is (kept-within (b .trades) (placeOf entryOf index (view b)))
+
+  -- and what it holds as live is live
+  pub all-live : (o : Order) → List·Memᴰ o (s .orders) → o .live ≡ true
+  all-live o m = orders-room.all-live (b .orders) (placeOf entryOf index (view b)) o (subst (λ (t : Symbol). List·Memᴰ o (t .orders)) is m)
 
   module _ (w : Wf b) where
     -- at most one live order of a number, and one kept trade

@@ -1,25 +1,27 @@
--- The quoted size is the sum over the live orders at the quoted price, and no live order is better, since a quote shows the levels of the symbol's orders.
+-- The quoted size is the sum over the live orders at the quoted price, and no live order is better, since a quote shows the levels of the symbol's orders; a message that is done brings the orders that the rule says.
 use mathlib.Core.Bool.{Bool, true, false}
 use mathlib.Core.List.{List, List·Memᴰ}
 use mathlib.Core.Option.{Option, none, some}
-use mathlib.Core.Path.{_≡_, refl, sym, ap, _∙_}
+use mathlib.Core.Path.{_≡_, refl, sym, ap, _∙_, subst}
 use Prim.Native.Nat.{ℕ, _+_}
 use native.Mathlib.Omega.{arith}
 use lib.Dec.{ltb}
 use lib.ListN.{length}
-use Rattle.feed.specs.Reader.{ruled, numbered}
+use Rattle.feed.specs.Reader.{Fit, fits, misfit, no-room, ruled, numbered}
 use Rattle.places.specs.Places.{sumBy, insert, look}
+use Rattle.symbols.specs.State.{placeOf}
 use Rattle.orders.specs.State.{ordersEach, orderNumber}
 use Rattle.orders.specs.Rules.{applyTo, added, orderOf}
-use Rattle.orders.specs.Levels.{counts, sharesAt, levelOf, NoBetter, Attained}
+use Rattle.orders.specs.Levels.{counts, sharesAt, levelOf, NoBetter, Attained, TakesOff}
 use Rattle.orders.specs.declared.Order.{Order}
 use Rattle.orders.specs.declared.levels.Level.{Level}
 use Rattle.orders.proofs.Sides as levels
 use Rattle.orders.proofs.Sides.{shows, best-of-all, attained-of-all, add-level}
+use Rattle.orders.proofs.Executing.{takes-off}
 use Rattle.record.specs.declared.Deal.{Deal}
 use Rattle.book.specs.declared.acts.Effect.{Effect}
-use Rattle.book.specs.State.{Symbol, View, symbolIn}
-use Rattle.book.specs.Step.{enacted, meets, actOn}
+use Rattle.book.specs.State.{Symbol, View, entryOf, symbolIn, liveOf, liveIn}
+use Rattle.book.specs.Step.{changeOf, dealOf, enacted, meets, actAt, actOn}
 use Rattle.book.specs.Quote.{quotedIf, quoted, quoteOf, sideOf}
 use Rattle.book.proofs.Isolation.{own-symbol}
 
@@ -96,3 +98,30 @@ case-d buy v index number n p vol m s e q z =
     ∙ shown-side buy _ _ (added-it .stale ∙ shown .0)
     ∙ ap (levelOf buy) (added-it .orders)
     ∙ add-level buy (s .orders) n p vol m (shown .1)
+
+-- ---- an execution that is done takes its volume off at its order's own price
+ruled-done : (s : Symbol) (stale below above : Bool) (x : Fit (List Order)) (d : Deal) → enacted s d (ruled stale below above x) .answer ≡ 0 → x ≡ fits (enacted s d (ruled stale below above x) .symbol .orders)
+unfolding enacted ruled
+ruled-done s true below above x d e = absurd (omega (arith, e))
+ruled-done s false true above x d e = absurd (omega (arith, e))
+ruled-done s false false true x d e = absurd (omega (arith, e))
+ruled-done s false false false misfit d e = absurd (omega (arith, e))
+ruled-done s false false false no-room d e = absurd (omega (arith, e))
+ruled-done s false false false (fits os) d e = refl
+
+meets-done : (s : Symbol) (index number : ℕ) (f : Effect) → meets s (numbered index number f) .answer ≡ 0 → applyTo (s .orders) (changeOf f) ≡ fits (meets s (numbered index number f) .symbol .orders)
+unfolding meets
+meets-done s index number f e = ruled-done s (s .entry .standing .stale) (ltb number (s .entry .standing .expected)) (ltb (s .entry .standing .expected) number) (applyTo (s .orders) (changeOf f)) (dealOf f) e
+
+pub execution : (v : View) (index number n vol : ℕ) (deal : Deal) → ((s : Symbol) → symbolIn index v ≡ some s → (o : Order) → List·Memᴰ o (s .orders) → o .live ≡ true)
+    → actOn v (numbered index number (Effect.Execute n vol deal)) .answer ≡ 0 → TakesOff n vol (liveIn index v) (liveIn index (actOn v (numbered index number (Effect.Execute n vol deal)) .view))
+unfolding actOn
+execution v index number n vol deal live = go (symbolIn index v) refl
+  where
+    go : (x : Option Symbol) → symbolIn index v ≡ x → actAt v (placeOf entryOf index v) x (numbered index number (Effect.Execute n vol deal)) .answer ≡ 0
+        → TakesOff n vol (liveIn index v) (liveIn index (actOn v (numbered index number (Effect.Execute n vol deal)) .view))
+    go none q z = absurd (omega (arith, z))
+    go (some s) q z =
+        subst (λ (x : Option Symbol). TakesOff n vol (liveIn index v) (liveOf x)) (sym (own-symbol v (numbered index number (Effect.Execute n vol deal)) s q))
+        (subst (λ (x : Option Symbol). TakesOff n vol (liveOf x) (meets s (numbered index number (Effect.Execute n vol deal)) .symbol .orders)) (sym q)
+        (takes-off (s .orders) n vol _ (live s q) (meets-done s index number (Effect.Execute n vol deal) z)))

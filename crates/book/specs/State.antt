@@ -1,6 +1,6 @@
 -- What a book holds, and the view of it that every promise speaks of: document 01, "The book" and "The trade record".
 use mathlib.Core.List.{List, []}
-use mathlib.Core.Option.{Option, none, Option·map}
+use mathlib.Core.Option.{Option, none, some, Option·map}
 use mathlib.Core.Path.{_≡_}
 use Prim.Native.Nat.{ℕ, _<_}
 use lib.ListN.{getD, replicate}
@@ -46,6 +46,14 @@ entryOf s = s .entry
 
 abbrev pub symbolIn : ℕ → View → Option Symbol
 symbolIn index v = foundIn entryOf index v
+
+-- and its live orders: none if it is not registered
+abbrev pub liveOf : Option Symbol → List Order
+liveOf none = []
+liveOf (some s) = s .orders
+
+abbrev pub liveIn : ℕ → View → List Order
+liveIn index v = liveOf (symbolIn index v)
 
 -- ---- what holds of every state: each room is sound, and a place with no symbol holds nothing
 pub record Wf (b : Book) : Type 0 where

@@ -22,7 +22,7 @@ use Rattle.symbols.specs.Registering.{Next, toldOf}
 use Rattle.symbols.specs.declared.registering.Listing.{Listing}
 use Rattle.symbols.proofs.Finding.{register-answers}
 use Rattle.orders.specs.Rules.{applyTo}
-use Rattle.book.specs.State.{Symbol, View, view, entryOf, symbolIn}
+use Rattle.book.specs.State.{Symbol, View, view, entryOf, symbolIn, liveOf, liveIn}
 use Rattle.book.specs.Step.{changeOf, dealOf, enacted, meets, actAt, actOn, meant, stepOn, stepOf}
 use Rattle.book.specs.Registering.{started, registerOf, toldIn, Told}
 use Rattle.book.specs.Promises.{unchanging, staling, Steps}
@@ -37,7 +37,7 @@ use Rattle.book.proofs.Positions.{position-is-sum, stops-there}
 use Rattle.book.proofs.Reaching.{reached-wf, alike}
 use Rattle.book.proofs.Refusals.{stale-view}
 use Rattle.demands.specs.Reader.{Orders, Effect}
-use Rattle.demands.specs.Demand1.{OneOf, Answers, Numbers, liveOf, LeavesStale, Refusals, TooFew, no-size, cut, Stays, Passes, Positions, Demand1}
+use Rattle.demands.specs.Demand1.{OneOf, Answers, Numbers, LeavesStale, Refusals, TooFew, no-size, cut, Stays, Passes, Positions, Demand1}
 use Rattle.demands.specs.Demand3.{StandsAt}
 use Rattle.demands.proofs.Demand3.{stands-acts}
 
@@ -115,18 +115,18 @@ meets-keeps-orders s (numbered index n e) = ruled-keeps-orders s (s .entry .stan
 
 -- of the next view, of all symbols
 abbrev NoneChanges : View → Next Symbol → Type 0
-NoneChanges v x = x .answer ≢ 0 → (i : ℕ) → liveOf (symbolIn i (x .view)) ≡ liveOf (symbolIn i v)
+NoneChanges v x = x .answer ≢ 0 → (i : ℕ) → liveIn i (x .view) ≡ liveIn i v
 
 module _ (v : View) (a : Act Effect) where
-  own-same : (x : Option Symbol) → symbolIn (indexOf a) v ≡ x → actAt v (placeOf entryOf (indexOf a) v) x a .answer ≢ 0 → liveOf (symbolIn (indexOf a) (actOn v a .view)) ≡ liveOf (symbolIn (indexOf a) v)
-  own-same none e n = ap (λ (w : View). liveOf (symbolIn (indexOf a) w)) (unregistered-stays v a e)
+  own-same : (x : Option Symbol) → symbolIn (indexOf a) v ≡ x → actAt v (placeOf entryOf (indexOf a) v) x a .answer ≢ 0 → liveIn (indexOf a) (actOn v a .view) ≡ liveIn (indexOf a) v
+  own-same none e n = ap (liveIn (indexOf a)) (unregistered-stays v a e)
   own-same (some s) e n = ap liveOf (own-symbol v a s e) ∙ meets-keeps-orders s a n ∙ sym (ap liveOf e)
 
   act-keeps : NoneChanges v (actOn v a)
   unfolding actOn
   act-keeps n i = go (eqb i (indexOf a)) refl
     where
-      go : (own : Bool) → eqb i (indexOf a) ≡ own → liveOf (symbolIn i (actOn v a .view)) ≡ liveOf (symbolIn i v)
+      go : (own : Bool) → eqb i (indexOf a) ≡ own → liveIn i (actOn v a .view) ≡ liveIn i v
       go true e = rw (eqb-true i (indexOf a) e) (own-same (symbolIn (indexOf a) v) refl n)
       go false e = ap liveOf (own-symbol-only v a i (eqb-false i (indexOf a) e))
 
@@ -271,7 +271,7 @@ module _ {b : Book} (p : Reached b) where
     registering = λ index name scale m n. m .kept (refused-registering _ (registering-number index name scale m .one-of) n);
     unchanged = λ m. m .kept;
     made-stale = λ m. leaves-stale p m;
-    no-order-changes = λ {s = s} {at = at} m n index. ap (λ (v : View). liveOf (symbolIn index v)) (m .obeys (reached-wf p) .next-view) ∙ move-keeps (view b) s at (λ z. n (answered p m ∙ z)) index;
+    no-order-changes = λ {s = s} {at = at} m n index. ap (liveIn index) (m .obeys (reached-wf p) .next-view) ∙ move-keeps (view b) s at (λ z. n (answered p m ∙ z)) index;
     running = λ m. m .obeys (reached-wf p) .next-view;
     unmoved = λ m. m .kept;
     quoting = quote-refused (view b);

@@ -4,7 +4,7 @@ use native.Mathlib.Omega.{arith}
 use mathlib.Core.Bool.{Bool, true, false}
 use mathlib.Core.List.{List, [], _∷_}
 use mathlib.Core.Option.{Option, none, some}
-use mathlib.Core.Path.{_≡_, refl, sym, ap, _∙_}
+use mathlib.Core.Path.{_≡_, refl, sym, ap, _∙_, subst}
 use lib.ListN.{take, drop}
 use Rattle.wire.specs.Outcome.{done}
 use Rattle.wire.specs.Reading.{readOf}
@@ -12,19 +12,20 @@ use Rattle.wire.specs.declared.Head.{Head}
 use Rattle.wire.specs.declared.Message.{Message}
 use Rattle.wire.proofs.RoundTrip.{read-what-was-written, write-what-was-read}
 use Rattle.symbols.specs.Registering.{Next}
-use Rattle.book.specs.State.{Symbol, View, view, symbolIn}
+use Rattle.book.specs.State.{Symbol, View, view, symbolIn, liveIn}
 use Rattle.book.specs.Quote.{quoted, quoteOf, sideOf}
-use Rattle.book.specs.Step.{buys, meant, stepOf}
+use Rattle.book.specs.Step.{buys, ifPrintable, meant, stepOf}
 use Rattle.book.specs.Walk.{walkOf, stepsOf, runOf, Moves, Runs}
 use Rattle.book.specs.Reached.{Reached}
 use Rattle.book.specs.declared.Book.{Book}
+use Rattle.orders.specs.Levels.{TakesOff}
 use Rattle.orders.specs.declared.levels.Level.{Level}
 use Rattle.book.specs.declared.walk.Moved.{Moved}
 use Rattle.book.specs.declared.walk.Ran.{Ran}
-use Rattle.book.proofs.Holding.{orders-within, trades-within, one-live, one-kept}
+use Rattle.book.proofs.Holding.{all-live, orders-within, trades-within, one-live, one-kept}
 use Rattle.book.proofs.Isolation.{step-others, apply-others}
 use Rattle.book.proofs.Positions.{position-is-sum, stops-there}
-use Rattle.book.proofs.Levels.{exact-sum, attained, best-price, none-live, case-d}
+use Rattle.book.proofs.Levels.{exact-sum, attained, best-price, none-live, case-d, execution}
 use Rattle.book.proofs.Marks.{apply-mark, run-mark}
 use Rattle.book.proofs.Reaching.{reached-wf}
 use Rattle.demands.specs.Demand2.{OfSymbol, OfMessage, AllNotFor, OfRun, Demand2, RoundTrips}
@@ -62,6 +63,16 @@ module _ {b : Book} (p : Reached b) where
       ap (λ (v : View). sideOf (buys side) (quoteOf (head .index) v)) (o .next-view ∙ ap (λ (x : Next Symbol). x .view) acts)
       ∙ case-d (buys side) (view b) (head .index) (head .number) order price volume size (is .symbol) (is .there) q (sym (o .answer ∙ ap (λ (x : Next Symbol). x .answer) acts) ∙ z)
 
+  execution-takes-off : {s : List ℕ} {at : ℕ} {m : List ℕ} {r : Moved} → Moves b s at r
+      → (head : Head) (order trade price volume printable : ℕ) → StandsAt s at m → readOf m .outcome ≡ done (Message.Execute head order trade price volume printable) → r .answer ≡ 0
+      → TakesOff order volume (liveIn (head .index) (view b)) (liveIn (head .index) (view (r .book)))
+  unfolding meant
+  execution-takes-off m head order trade price volume printable t e z =
+      let o = m .obeys (reached-wf p) in
+      let acts = stands-acts (view b) t e in
+      subst (λ (v : View). TakesOff order volume (liveIn (head .index) (view b)) (liveIn (head .index) v)) (sym (o .next-view ∙ ap (λ (x : Next Symbol). x .view) acts))
+      (execution (view b) (head .index) (head .number) order volume (ifPrintable printable trade price volume) (all-live b (head .index)) (sym (o .answer ∙ ap (λ (x : Next Symbol). x .answer) acts) ∙ z))
+
   of-symbol : (index : ℕ) (s : Symbol) → symbolIn index (view b) ≡ some s → OfSymbol b index s
   of-symbol index s e = record {
     exact-sum = λ buy price size. exact-sum buy (view b) index s price size e;
@@ -78,6 +89,7 @@ module _ {b : Book} (p : Reached b) where
   of-message {s = s} {at = at} {r = r} m = record {
     effects = m .obeys (reached-wf p);
     case-d = add-raises m;
+    execution = execution-takes-off m;
     others-unchanged = λ index other. apply-others b s at r (reached-wf p) m index (λ n x e f. other (take n (drop at s)) (record { size = n; reaches = e; bytes = refl }) x f);
     mark-stays-lost = λ index. apply-mark index b s at r (reached-wf p) m;
   }

@@ -3,7 +3,6 @@ use Prim.Native.Nat.{ℕ, _+_, _≤_, _<_}
 use mathlib.Core.Bool.{true, false}
 use mathlib.Core.List.{List, [], _∷_}
 use mathlib.Core.Logic.{_≢_}
-use mathlib.Core.Option.{Option, none, some}
 use mathlib.Core.Path.{_≡_}
 use lib.ListN.{length, drop, replicate}
 use Rattle.wire.specs.Outcome.{done, refused, numberOf}
@@ -15,7 +14,7 @@ use Rattle.feed.specs.Reader.{indexOf}
 use Rattle.places.specs.Places.{among, sumBy}
 use Rattle.symbols.specs.State.{nameBytes}
 use Rattle.symbols.specs.declared.registering.Listing.{Listing}
-use Rattle.book.specs.State.{Symbol, view, symbolIn}
+use Rattle.book.specs.State.{view, liveIn}
 use Rattle.book.specs.Promises.{unchanging, staling, BecomesStale, Steps}
 use Rattle.book.specs.Registering.{registerOf, toldIn}
 use Rattle.book.specs.Quote.{noQuote, volumeOf}
@@ -26,7 +25,6 @@ use Rattle.book.specs.declared.Book.{Book}
 use Rattle.book.specs.declared.Done.{Done}
 use Rattle.book.specs.declared.walk.Moved.{Moved}
 use Rattle.book.specs.declared.walk.Ran.{Ran}
-use Rattle.demands.specs.Reader.{Orders}
 use Rattle.demands.specs.Demand3.{StandsAt, quoteIn}
 
 -- ---- the numbers: a call answers with one of its own, and where a rule decides which, with the rule's
@@ -51,11 +49,6 @@ pub record Numbers (b : Book) : Type 0 where
   pub telling : {r : Listing} (index : ℕ) → r ≡ toldIn index (view b) → OneOf (0 ∷ 5 ∷ []) (r .answer)
 
 -- ---- what a refusal leaves
--- a symbol's live orders; none if it is not registered
-abbrev pub liveOf : Option Symbol → Orders
-liveOf none = []
-liveOf (some s) = s .orders
-
 -- the message at the position was read; its symbol becomes stale and loses its mark, and nothing else changes
 pub record LeavesStale (b : Book) (s : List ℕ) (at : ℕ) (r : Moved) : Type 0 where
   pub bytes : List ℕ
@@ -79,7 +72,7 @@ pub record Refusals (b : Book) : Type 0 where
   -- so do 1 to 6 and 8 of a message; 7, 9 and 10 make its symbol stale; and no refusal changes an order
   pub unchanged : {s : List ℕ} {at : ℕ} {r : Moved} → Moves b s at r → unchanging (r .answer) ≡ true → r .book ≡ b
   pub made-stale : {s : List ℕ} {at : ℕ} {r : Moved} → Moves b s at r → staling (r .answer) ≡ true → LeavesStale b s at r
-  pub no-order-changes : {s : List ℕ} {at : ℕ} {r : Moved} → Moves b s at r → r .answer ≢ 0 → (index : ℕ) → liveOf (symbolIn index (view (r .book))) ≡ liveOf (symbolIn index (view b))
+  pub no-order-changes : {s : List ℕ} {at : ℕ} {r : Moved} → Moves b s at r → r .answer ≢ 0 → (index : ℕ) → liveIn index (view (r .book)) ≡ liveIn index (view b)
   -- the stop of a run changes nothing: its state is what the messages passed make, each as above; with none passed, the one that came in
   pub running : {s : List ℕ} {from : ℕ} {r : Ran} → Runs b s from r → view (r .book) ≡ stepsOf (view b) (walkOf s from .messages)
   pub unmoved : {s : List ℕ} {from : ℕ} {r : Ran} → Runs b s from r → r .at ≡ from → r .book ≡ b

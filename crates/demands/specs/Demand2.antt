@@ -19,9 +19,9 @@ use Rattle.feed.specs.Reader.{indexOf}
 use Rattle.places.specs.Places.{count, sumBy}
 use Rattle.orders.specs.State.{ordersEach, orderNumber}
 use Rattle.record.specs.State.{tradesEach, tradeNumber}
-use Rattle.book.specs.State.{Symbol, view, symbolIn}
+use Rattle.book.specs.State.{Symbol, view, symbolIn, liveIn}
 use Rattle.book.specs.Promises.{Obeys}
-use Rattle.orders.specs.Levels.{counts, sharesAt, NoBetter, Attained}
+use Rattle.orders.specs.Levels.{counts, sharesAt, NoBetter, Attained, TakesOff}
 use Rattle.book.specs.Quote.{sideOf, volumeOf}
 use Rattle.book.specs.Step.{buys, meant}
 use Rattle.book.specs.Walk.{moveOf, walkOf, runOf, Moves, Runs}
@@ -58,6 +58,9 @@ pub record OfMessage (b : Book) (s : List ℕ) (at : ℕ) (r : Moved) : Type 0 w
   -- case D's rule: an add that is done at the best price raises the quoted size by its volume
   pub case-d : {m : List ℕ} (head : Head) (order price volume side size : ℕ) → StandsAt s at m → readOf m .outcome ≡ done (Message.Add head order price volume side) → r .answer ≡ 0
       → sideOf (buys side) (quoteIn b (head .index)) ≡ Level.Best price size → sideOf (buys side) (quoteIn (r .book) (head .index)) ≡ Level.Best price (size + volume)
+  -- an execution that is done takes its volume off at the price and side of its order, which was live, whatever the price of the trade; the sum at every other stays
+  pub execution : {m : List ℕ} (head : Head) (order trade price volume printable : ℕ) → StandsAt s at m → readOf m .outcome ≡ done (Message.Execute head order trade price volume printable) → r .answer ≡ 0
+      → TakesOff order volume (liveIn (head .index) (view b)) (liveIn (head .index) (view (r .book)))
   -- a message for one symbol changes nothing kept for another: orders, record, mark, number, name and scale; nor does a refusal
   pub others-unchanged : (index : ℕ) → ((m : List ℕ) → StandsAt s at m → NotFor index m) → symbolIn index (view (r .book)) ≡ symbolIn index (view b)
   -- a record that has lost its mark does not get it back

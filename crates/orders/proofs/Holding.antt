@@ -1,18 +1,25 @@
 -- What is live lies in a symbol's places, a number at most once; in a new state nothing is.
-use mathlib.Core.List.{[]}
+use mathlib.Core.Bool.{true}
+use mathlib.Core.List.{[], List·Memᴰ}
 use mathlib.Core.Path.{_≡_, refl}
 use Prim.Native.Nat.{ℕ, _*_, _<_, _≤_}
 use lib.Dec.{eqb}
 use lib.ListN.{length}
-use Rattle.places.specs.Places.{symbols, count}
+use Rattle.places.specs.Places.{symbols, shelf, count}
+use Rattle.places.proofs.Living.{in-order-live}
 use Rattle.places.proofs.EightShelves.{within-places, one-of-number, new-singles, new-none}
 use Rattle.orders.specs.State.{ordersEach, noOrder, orderNumber, orderLive, liveAt, Wf, noOrders}
+use Rattle.orders.specs.declared.Order.{Order}
 use Rattle.orders.specs.declared.Orders.{Orders}
 
 module _ (b : Orders) (k : ℕ) where
   pub live-within : length (liveAt b k) ≤ ordersEach
   unfolding liveAt
   live-within = within-places orderNumber orderLive ordersEach (b .places) k
+
+  pub all-live : (o : Order) → List·Memᴰ o (liveAt b k) → o .live ≡ true
+  unfolding liveAt
+  all-live = in-order-live orderNumber orderLive (shelf ordersEach k (b .places))
 
   pub one-live : Wf b → k < symbols → (number : ℕ) → count (λ x. eqb (orderNumber x) number) (liveAt b k) ≤ 1
   unfolding liveAt

@@ -1,8 +1,9 @@
 -- What the best of a side is: document 01, "The book".
 use mathlib.Core.Bool.{Bool, true, false, cond, Bool·beq}
 use mathlib.Core.List.{List, List·Memᴰ}
+use mathlib.Core.Logic.{_≢_}
 use mathlib.Core.Path.{_≡_}
-use Prim.Native.Nat.{ℕ, max, min, _≤_}
+use Prim.Native.Nat.{ℕ, _+_, max, min, _≤_}
 use lib.Dec.{eqb}
 use Rattle.places.specs.Places.{fold, sumBy}
 use Rattle.orders.specs.declared.Order.{Order}
@@ -49,3 +50,11 @@ pub record Attained (buy : Bool) (price : ℕ) (os : List Order) : Type 0 where
   pub live : List·Memᴰ order os
   pub side : counts buy order ≡ true
   pub at : order .price ≡ price
+
+-- of a live order with this number so many shares come off: at its own price of its own side that many fewer are live, and at every other as many as before
+pub record TakesOff (number volume : ℕ) (before after : List Order) : Type 0 where
+  pub order : Order
+  pub live : List·Memᴰ order before
+  pub named : order .number ≡ number
+  pub own-price : sumBy (sharesAt (order .buy) (order .price)) after + volume ≡ sumBy (sharesAt (order .buy) (order .price)) before
+  pub elsewhere : (buy : Bool) (price : ℕ) → (buy ≡ order .buy → price ≢ order .price) → sumBy (sharesAt buy price) after ≡ sumBy (sharesAt buy price) before
