@@ -3,18 +3,18 @@ use mathlib.Core.Bool.{false}
 use mathlib.Core.List.{List}
 use mathlib.Core.Path.{_≡_}
 use Prim.Native.Nat.{ℕ}
-use Rattle.feed.specs.Reader.{indexOf, clear}
-use Rattle.feed.specs.Feed.{Feed, _▷_, heard, phase}
+use Rattle.feed.specs.Reader.{clear}
+use Rattle.feed.specs.Feed.{Feed, _▷_, heard}
 use Rattle.feed.specs.Book.{bookOf}
-use Rattle.feed.specs.Demand3.{NoneLost, AfterLoss, UntilClear, Since, NotLost, answered}
+use Rattle.feed.specs.Demand3.{NoneLost, AfterLoss, UntilClear, Since, NotLost}
 use Rattle.book.specs.State.{view}
 use Rattle.book.specs.Quote.{noQuote, quotedIf}
 use Rattle.book.specs.Walk.{Moves}
 use Rattle.book.specs.declared.Book.{Book}
 use Rattle.book.specs.declared.walk.Moved.{Moved}
 use Rattle.demands.specs.Reader.{pillar, Effect, Registered}
-use Rattle.demands.specs.ByteFeed.{ByteFeed, hears, sent, Moment, actIn, feedOf}
-use Rattle.demands.specs.Demand3.{StandsAt, Reads, Given, Now, quoteIn}
+use Rattle.demands.specs.ByteFeed.{ByteFeed, hears, sent, Moment, feedOf}
+use Rattle.demands.specs.Demand3.{StandsAt, Reads, Given, AnsweredAs, Now, quoteIn}
 use Rattle.demands.proofs.Demand3.{demand-3-holds}
 
 module _ (b c : Book) (f : ByteFeed) (first second : Book) (at : Now Reads b c f first second) (index : ℕ) where
@@ -34,5 +34,5 @@ module _ (b c : Book) (f : ByteFeed) (first second : Book) (at : Now Reads b c f
   from-that-clear-on = demand-3-holds b c f first second at .from-that-clear-on index
 
 pub answered-0-then-7-then-8 : (b c : Book) (f : ByteFeed) (first second : Book) → Now Reads b c f first second → {s : List ℕ} {at : ℕ} {m : List ℕ} {r : Moved}
-    → Given b c (hears f m) → StandsAt s at m → Moves second s at r → r .answer ≡ answered (phase (indexOf (actIn m)) (feedOf f)) (actIn m)
+    → Given b c (hears f m) → StandsAt s at m → Moves second s at r → AnsweredAs f m (r .answer)
 answered-0-then-7-then-8 b c f first second at = demand-3-holds b c f first second at .answers

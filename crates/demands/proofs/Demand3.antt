@@ -1,12 +1,14 @@
 -- Demand 3 for the reader that is built: a call leaves the view that the rule says, the rule is a reader of `feed`, and for readers of `feed` demand 3 is proved.
 use mathlib.Core.List.{List}
-use mathlib.Core.Path.{_≡_, refl, sym, ap, _∙_}
+use mathlib.Core.Option.{Option}
+use mathlib.Core.Path.{_≡_, refl, sym, ap, _∙_, subst}
 use Prim.Native.Nat.{ℕ}
 use Rattle.wire.specs.Outcome.{Outcome, done}
 use Rattle.wire.specs.Reading.{readOf}
 use Rattle.wire.specs.declared.Message.{Message}
-use Rattle.feed.specs.Reader.{indexOf, quote}
-use Rattle.feed.specs.Feed.{phase, first, second}
+use Rattle.feed.specs.Reader.{Act, quote}
+use Rattle.feed.specs.Feed.{heard, _▷_, first, second}
+use Rattle.feed.specs.Feed as feed-given
 use Rattle.feed.specs.Demand3 as feed
 use Rattle.feed.proofs.Demand3.{demand-3}
 use Rattle.symbols.specs.Registering.{Next}
@@ -17,15 +19,15 @@ use Rattle.book.specs.Walk.{moveBy, moveOf, stepsOf, runOf, Moves}
 use Rattle.book.specs.declared.Book.{Book}
 use Rattle.book.specs.declared.walk.Moved.{Moved}
 use Rattle.book.proofs.Walking.{steps-join}
-use Rattle.demands.specs.Reader.{pillar, asQuote}
-use Rattle.demands.specs.ByteFeed.{ByteFeed, hears, sent, delivered, IsDone, Applied, actIn, feedOf}
-use Rattle.demands.specs.Demand3.{Began, StandsAt, Reads, nothing, applies, refuses, runs, RunsOver, ran, Given, AnswersZero, nothing-yet, to-heard, to-lost, Demand3, quoteIn}
+use Rattle.demands.specs.Reader.{pillar, Effect, asQuote}
+use Rattle.demands.specs.ByteFeed.{ByteFeed, hears, sent, delivered, IsDone, Applied, goesOn, feedOf}
+use Rattle.demands.specs.Demand3.{Began, StandsAt, Reads, nothing, applies, refuses, runs, RunsOver, ran, Given, AnswersZero, nothing-yet, to-heard, to-lost, AnsweredAs, Demand3, quoteIn}
 use Rattle.demands.proofs.Reader.{reader, quotes-kept}
 use Rattle.demands.proofs.Starting.{began-wf}
 use Rattle.demands.proofs.Laying.{AllComplete, sent-complete, delivered-complete, walks-messages}
 use Rattle.demands.proofs.Moments.{given-at}
 use Rattle.demands.proofs.Refused.{refused-changes-nothing, counted-steps, all-count}
-use Rattle.demands.proofs.Translating.{steps-last, first-steps, second-steps, heard-acts, is-registered, given-feed}
+use Rattle.demands.proofs.Translating.{steps-last, first-steps, second-steps, heard-says, heard-acts, is-registered, given-feed}
 
 -- ---- a message that stands there is stepped over
 pub stands-step : (v : View) {s : List ℕ} {at : ℕ} {m : List ℕ} → StandsAt s at m → moveOf v s at ≡ stepOf v (readOf m)
@@ -84,13 +86,19 @@ module _ (Takes : Book → List (List ℕ) → Book → Type 0) (faithful : Fait
         ap (quoteOf index) (second-view t)
         ∙ quotes-kept (second pillar reader (view c) (feedOf f)) index
 
-    answers-next : {d : Book} → Takes c (delivered f) d → {s : List ℕ} {at : ℕ} {m : List ℕ} {r : Moved} → Given b c (hears f m) → StandsAt s at m → Moves d s at r
-        → r .answer ≡ feed.answered (phase (indexOf (actIn m)) (feedOf f)) (actIn m)
+    answers-next : {d : Book} → Takes c (delivered f) d → {s : List ℕ} {at : ℕ} {m : List ℕ} {r : Moved} → Given b c (hears f m) → StandsAt s at m → Moves d s at r → AnsweredAs f m (r .answer)
     unfolding feedOf
     answers-next {d = d} t {s = s} {at = at} {m = m} h stands moves =
-        moves .obeys (second-after t .sound) .answer ∙ ap (λ (x : Next Symbol). x .answer) (stands-step (view d) stands ∙ heard-acts (view b) f m (h .applied) (view d))
-        ∙ ap (λ (v : View). actOn v (actIn m) .answer) (second-view t)
-        ∙ demand-3 pillar reader (view b) (view c) .answers (given-feed b c (hears f m) h)
+        let says = heard-says (view b) f m (h .applied) in
+        let given : feed-given.Given pillar reader (view b) (view c) (feedOf f ▷ heard (says .act)) = subst (λ (x : Option (Act Effect)). feed-given.Given pillar reader (view b) (view c) (goesOn (feedOf f) heard x)) (says .is) (given-feed b c (hears f m) h) in
+        record {
+          act = says .act;
+          says = says .is;
+          number =
+              moves .obeys (second-after t .sound) .answer ∙ ap (λ (x : Next Symbol). x .answer) (stands-step (view d) stands ∙ heard-acts (view b) f m (h .applied) (view d))
+              ∙ ap (λ (v : View). actOn v (says .act) .answer) (second-view t)
+              ∙ demand-3 pillar reader (view b) (view c) .answers given;
+        }
 
   abbrev of-views : feed.Demand3 pillar reader (view b) (view c)
   of-views = demand-3 pillar reader (view b) (view c)
@@ -100,14 +108,14 @@ module _ (Takes : Book → List (List ℕ) → Book → Type 0) (faithful : Fait
   demanded f _ _ n =
       let given = given-feed b c f (n .given) in
       let now = first-quotes (n .given) (n .all) in
-      let heard = second-quotes (n .given) (n .rest) in
+      let hearing = second-quotes (n .given) (n .rest) in
       record {
-        nothing-lost = λ index l. heard index ∙ ap asQuote (of-views .nothing-lost index given l) ∙ sym (now index);
-        quotes-the-book = λ index y l. heard index ∙ ap asQuote (of-views .quotes-the-book index given (is-registered (view b) index y) l);
+        nothing-lost = λ index l. hearing index ∙ ap asQuote (of-views .nothing-lost index given l) ∙ sym (now index);
+        quotes-the-book = λ index y l. hearing index ∙ ap asQuote (of-views .quotes-the-book index given (is-registered (view b) index y) l);
         first-quotes-the-book = λ index y. now index ∙ ap asQuote (of-views .first-quotes-the-book index given (is-registered (view b) index y));
-        after-a-loss = λ index m before l. heard index ∙ ap asQuote (of-views .after-a-loss index given l) ∙ sym (first-quotes (given-at b c m (n .given)) before index);
-        refused-until-a-clear = λ index u. heard index ∙ ap asQuote (of-views .refused-until-a-clear index given u);
-        from-that-clear-on = λ index s. heard index ∙ ap asQuote (of-views .from-that-clear-on index given s) ∙ sym (now index);
+        after-a-loss = λ index m before l. hearing index ∙ ap asQuote (of-views .after-a-loss index given l) ∙ sym (first-quotes (given-at b c m (n .given)) before index);
+        refused-until-a-clear = λ index u. hearing index ∙ ap asQuote (of-views .refused-until-a-clear index given u);
+        from-that-clear-on = λ index s. hearing index ∙ ap asQuote (of-views .from-that-clear-on index given s) ∙ sym (now index);
         answers = answers-next (n .given) (n .rest);
       }
 

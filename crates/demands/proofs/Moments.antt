@@ -2,14 +2,16 @@
 use Prim.Native.Nat.{ℕ}
 use native.Mathlib.Omega.{arith}
 use mathlib.Core.List.{List}
+use mathlib.Core.Option.{Option, none, some}
 use mathlib.Core.Path.{_≡_, refl}
+use Rattle.feed.specs.Reader.{Act}
 use Rattle.feed.specs.Feed.{Item, Feed, _▷_, heard, lost, Phase, phase}
 use Rattle.feed.specs.Demand3.{Since, here, more, AfterLoss, Stands}
 use Rattle.feed.specs.Demand3 as feed
 use Rattle.feed.proofs.Words as words
 use Rattle.book.specs.declared.Book.{Book}
 use Rattle.demands.specs.Reader.{Effect}
-use Rattle.demands.specs.ByteFeed.{ByteFeed, begins, hears, loses, Moment, now, then-hears, then-loses, Complete, Applied, ClearsDelivered, actIn, feedOf}
+use Rattle.demands.specs.ByteFeed.{ByteFeed, begins, hears, loses, Moment, now, then-hears, then-loses, Complete, Applied, ClearsDelivered, actIn, goesOn, feedOf}
 use Rattle.demands.specs.Demand3.{Given, Stage, none-lost, after-loss, until-clear}
 
 module _ (b c : Book) where
@@ -47,11 +49,17 @@ record Found (g : Feed Effect) (f : ByteFeed) : Type 0 where
   pub earlier : Moment moment f
   pub is : feedOf moment ≡ g
 
+-- before a message that says nothing the feed is the same
+found-before : (g x : Feed Effect) (it : Item Effect) (f : ByteFeed) (way : Act Effect → Item Effect) → (feedOf f ≡ x → Found g f) → (feedOf f ≡ x ▷ it → Found g f)
+    → (said : Option (Act Effect)) → goesOn (feedOf f) way said ≡ x ▷ it → Found g f
+found-before g x it f way one same none e = same e
+found-before g x it f way one same (some a) e = one (cc)
+
 found-more : (g x : Feed Effect) (it : Item Effect) → ((f : ByteFeed) → feedOf f ≡ x → Found g f) → (f : ByteFeed) → feedOf f ≡ x ▷ it → Found g f
 unfolding feedOf
 found-more g x it ih begins e = absurd (let z : _≡_ {A = ℕ} 0 1 = cc in omega arith)
-found-more g x it ih (hears f m) e = let i = ih f (cc) in record { moment = i .moment; earlier = then-hears (i .earlier); is = i .is }
-found-more g x it ih (loses f m) e = let i = ih f (cc) in record { moment = i .moment; earlier = then-loses (i .earlier); is = i .is }
+found-more g x it ih (hears f m) e = let i = found-before g x it f heard (ih f) (found-more g x it ih f) (actIn m) e in record { moment = i .moment; earlier = then-hears (i .earlier); is = i .is }
+found-more g x it ih (loses f m) e = let i = found-before g x it f lost (ih f) (found-more g x it ih f) (actIn m) e in record { moment = i .moment; earlier = then-loses (i .earlier); is = i .is }
 
 found : {P : Item Effect → Type 0} {g x : Feed Effect} → Since P g x → (f : ByteFeed) → feedOf f ≡ x → Found g f
 found here f e = record { moment = f; earlier = now; is = e }
@@ -63,12 +71,25 @@ earlier-still now = then-loses now
 earlier-still (then-hears p) = then-hears (earlier-still p)
 earlier-still (then-loses p) = then-loses (earlier-still p)
 
+before-heard : {k f : ByteFeed} {m : List ℕ} → Moment (hears k m) f → Moment k f
+before-heard now = then-hears now
+before-heard (then-hears p) = then-hears (before-heard p)
+before-heard (then-loses p) = then-loses (before-heard p)
+
 module _ (index : ℕ) (f : ByteFeed) where
   before-loss : (h : Feed Effect) (message : _) → AfterLoss index h (feedOf f) → (k : ByteFeed) → Moment k f → feedOf k ≡ h ▷ lost message → Stage index f
   unfolding feedOf
   before-loss h message a begins p e = absurd (let z : _≡_ {A = ℕ} 0 1 = cc in omega arith)
-  before-loss h message a (hears k m) p e = absurd (let i : heard (actIn m) ≡ lost message = cc in let z : _≡_ {A = ℕ} 0 1 = cc in omega arith)
-  before-loss h message a (loses k m) p e = let i : feedOf k ≡ h = cc in after-loss (earlier-still p) (rw i a)
+  before-loss h message a (hears k m) p e = go (before-loss h message a k (before-heard p)) (actIn m) e
+    where
+      go : (feedOf k ≡ h ▷ lost message → Stage index f) → (said : Option (Act Effect)) → goesOn (feedOf k) heard said ≡ h ▷ lost message → Stage index f
+      go ih none q = ih q
+      go ih (some x) q = absurd (let i : heard x ≡ lost message = cc in let z : _≡_ {A = ℕ} 0 1 = cc in omega arith)
+  before-loss h message a (loses k m) p e = go (before-loss h message a k (earlier-still p)) (actIn m) e
+    where
+      go : (feedOf k ≡ h ▷ lost message → Stage index f) → (said : Option (Act Effect)) → goesOn (feedOf k) lost said ≡ h ▷ lost message → Stage index f
+      go ih none q = ih q
+      go ih (some x) q = let i : feedOf k ≡ h = cc in after-loss (earlier-still p) (rw i a)
 
   pub every-moment : Stage index f
   every-moment = go (phase index (feedOf f)) (words.every-moment index (feedOf f))

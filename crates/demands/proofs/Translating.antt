@@ -1,7 +1,7 @@
 -- A message that is done was read, so that a feed of bytes that is applied is a feed of messages, and stepping over the bytes is stepping over the messages.
 use mathlib.Core.List.{List, [], _∷_, _++_}
 use mathlib.Core.Option.{Option, none, some, IsSome}
-use mathlib.Core.Path.{_≡_, refl, sym, ap, _∙_}
+use mathlib.Core.Path.{_≡_, refl, sym, ap, _∙_, subst}
 use Prim.Native.Nat.{ℕ}
 use native.Mathlib.Omega.{arith}
 use Rattle.wire.specs.Outcome.{Outcome, done, refused}
@@ -9,7 +9,7 @@ use Rattle.wire.specs.Reading.{msgType, readOf}
 use Rattle.wire.specs.Message.{typeOf}
 use Rattle.wire.specs.declared.Message.{Message}
 use Rattle.feed.specs.Reader.{Act, clear, numbered}
-use Rattle.feed.specs.Feed.{Feed, _▷_, lost, ClearsHeard, Accepted, first, second}
+use Rattle.feed.specs.Feed.{Item, heard, lost, Feed, _▷_, ClearsHeard, Accepted, first, second}
 use Rattle.feed.specs.Feed as feed
 use Rattle.symbols.specs.Registering.{Next}
 use Rattle.book.specs.State.{Symbol, View, view, symbolIn}
@@ -18,36 +18,36 @@ use Rattle.book.specs.Walk.{stepsOf}
 use Rattle.book.specs.declared.Book.{Book}
 use Rattle.book.proofs.Walking.{steps-join}
 use Rattle.demands.specs.Reader.{pillar, Effect, keptIf, keptIn, Registered}
-use Rattle.demands.specs.ByteFeed.{ByteFeed, begins, hears, loses, sent, delivered, Applied, ClearsDelivered, said, actIn, feedOf, IsDone}
+use Rattle.demands.specs.ByteFeed.{ByteFeed, begins, hears, loses, sent, delivered, Applied, ClearsDelivered, said, actIn, goesOn, feedOf, IsDone}
 use Rattle.demands.specs.Demand3.{Given}
 use Rattle.demands.proofs.Reader.{reader}
 use Rattle.wire.proofs.Answers.{Tells, read-tells}
 use Rattle.demands.proofs.Starting.{began-new}
 
 -- ---- one message
--- reading handed on a message
-abbrev WasRead : Outcome Message → Type 0
-WasRead (done m) = Unit {0}
-WasRead (refused a) = ⊥
+-- it says something
+pub record Says (m : List ℕ) : Type 0 where
+  pub act : Act Effect
+  pub is : actIn m ≡ some act
 
-abbrev IsRead : List ℕ → Type 0
-IsRead m = WasRead (readOf m .outcome)
-
-done-read : (v : View) (m : List ℕ) → stepOf v (readOf m) .answer ≡ 0 → IsRead m
+done-says : (v : View) (m : List ℕ) → stepOf v (readOf m) .answer ≡ 0 → Says m
 unfolding stepOf
-done-read v m e = go (readOf m .outcome) (read-tells m) e
+done-says v m e = go (readOf m .outcome) refl (read-tells m) e
   where
-    go : (x : Outcome Message) → Tells (msgType m) x → stepOn v x .answer ≡ 0 → WasRead x
-    go (done y) t z = tt
-    go (refused a) t z = omega (arith, t .0, z)
+    go : (x : Outcome Message) → readOf m .outcome ≡ x → Tells (msgType m) x → stepOn v x .answer ≡ 0 → Says m
+    go (done y) q t z = record { act = meant y; is = ap said q }
+    go (refused a) q t z = absurd (omega (arith, t .0, z))
 
-step-acts : (v : View) (m : List ℕ) → IsRead m → stepOf v (readOf m) ≡ actOn v (actIn m)
+nothing-said : {A : Type 0} (a : Act Effect) → _≡_ {A = Option (Act Effect)} none (some a) → A
+nothing-said a e = absurd (let z : _≡_ {A = ℕ} 0 1 = cc in omega arith)
+
+step-acts : (v : View) (m : List ℕ) (a : Act Effect) → actIn m ≡ some a → stepOf v (readOf m) ≡ actOn v a
 unfolding stepOf
-step-acts v m = go (readOf m .outcome)
+step-acts v m a = go (readOf m .outcome)
   where
-    go : (x : Outcome Message) → WasRead x → stepOn v x ≡ actOn v (said x)
-    go (done y) r = refl
-    go (refused a) r = absurd r
+    go : (x : Outcome Message) → said x ≡ some a → stepOn v x ≡ actOn v a
+    go (done y) e = let same : meant y ≡ a = cc in ap (actOn v) same
+    go (refused n) e = nothing-said a e
 
 -- what is numbered in bytes is numbered as an act
 abbrev Numbered : Act Effect → Type 0
@@ -70,53 +70,67 @@ meant-numbered (Message.Retail h indicator) ne = tt
 meant-numbered (Message.Clear h seconds) ne = ne refl
 meant-numbered (Message.Status h seconds) ne = tt
 
-act-numbered : (m : List ℕ) → IsRead m → (msgType m ≡ 32 → ⊥) → Numbered (actIn m)
-act-numbered m r ne = go (readOf m .outcome) (read-tells m) r
+act-numbered : (m : List ℕ) (a : Act Effect) → actIn m ≡ some a → (msgType m ≡ 32 → ⊥) → Numbered a
+act-numbered m a e ne = go (readOf m .outcome) (read-tells m) e
   where
-    go : (x : Outcome Message) → Tells (msgType m) x → WasRead x → Numbered (said x)
-    go (done y) t u = meant-numbered y (λ e. ne (sym t ∙ e))
-    go (refused a) t u = absurd u
+    go : (x : Outcome Message) → Tells (msgType m) x → said x ≡ some a → Numbered a
+    go (done y) t q = let same : meant y ≡ a = cc in subst Numbered same (meant-numbered y (λ z. ne (sym t ∙ z)))
+    go (refused n) t q = nothing-said a q
 
 -- ---- lists of messages
 pub steps-last : (v : View) (ms : List (List ℕ)) (m : List ℕ) → stepsOf v (ms ++ m ∷ []) ≡ stepOf (stepsOf v ms) (readOf m) .view
 unfolding stepsOf
 steps-last v ms m = steps-join v ms (m ∷ [])
 
-acts-last : (v w : View) (ms : List (List ℕ)) (m : List ℕ) → IsRead m → stepsOf v ms ≡ w → stepsOf v (ms ++ m ∷ []) ≡ actOn w (actIn m) .view
-acts-last v w ms m r e = steps-last v ms m ∙ ap (λ (x : Next Symbol). x .view) (step-acts (stepsOf v ms) m r) ∙ ap (λ (x : View). actOn x (actIn m) .view) e
+acts-last : (v w : View) (ms : List (List ℕ)) (m : List ℕ) (s : Says m) → stepsOf v ms ≡ w → stepsOf v (ms ++ m ∷ []) ≡ actOn w (s .act) .view
+acts-last v w ms m s e = steps-last v ms m ∙ ap (λ (x : Next Symbol). x .view) (step-acts (stepsOf v ms) m (s .act) (s .is)) ∙ ap (λ (x : View). actOn x (s .act) .view) e
+
+-- what holds of a feed and then what the message says holds of the feed with the message
+goes-on : (P : Feed Effect → Type 0) (f : ByteFeed) (m : List ℕ) (s : Says m) (way : Act Effect → Item Effect) → P (feedOf f ▷ way (s .act)) → P (goesOn (feedOf f) way (actIn m))
+goes-on P f m s way h = subst (λ (x : Option (Act Effect)). P (goesOn (feedOf f) way x)) (sym (s .is)) h
 
 -- ---- the two readers
 module _ (v : View) where
-  is-read : (f : ByteFeed) (m : List ℕ) → IsDone v (sent f) m → IsRead m
-  is-read f m d = done-read (stepsOf v (sent f)) m d
+  says : (f : ByteFeed) (m : List ℕ) → IsDone v (sent f) m → Says m
+  says f m d = done-says (stepsOf v (sent f)) m d
 
   pub first-steps : (f : ByteFeed) → Applied v f → stepsOf v (sent f) ≡ first pillar reader v (feedOf f)
   unfolding Applied sent feedOf first stepsOf
   first-steps begins a = refl
-  first-steps (hears f m) a = acts-last v (first pillar reader v (feedOf f)) (sent f) m (is-read f m (a .1)) (first-steps f (a .0))
-  first-steps (loses f m) a = acts-last v (first pillar reader v (feedOf f)) (sent f) m (is-read f m (a .1)) (first-steps f (a .0))
+  first-steps (hears f m) a =
+      let s = says f m (a .1) in
+      goes-on (λ (g : Feed Effect). stepsOf v (sent f ++ m ∷ []) ≡ first pillar reader v g) f m s heard (acts-last v (first pillar reader v (feedOf f)) (sent f) m s (first-steps f (a .0)))
+  first-steps (loses f m) a =
+      let s = says f m (a .1) in
+      goes-on (λ (g : Feed Effect). stepsOf v (sent f ++ m ∷ []) ≡ first pillar reader v g) f m s lost (acts-last v (first pillar reader v (feedOf f)) (sent f) m s (first-steps f (a .0)))
 
   pub second-steps : (w : View) (f : ByteFeed) → Applied v f → stepsOf w (delivered f) ≡ second pillar reader w (feedOf f)
   unfolding Applied delivered feedOf second stepsOf
   second-steps w begins a = refl
-  second-steps w (hears f m) a = acts-last w (second pillar reader w (feedOf f)) (delivered f) m (is-read f m (a .1)) (second-steps w f (a .0))
-  second-steps w (loses f m) a = second-steps w f (a .0)
+  second-steps w (hears f m) a =
+      let s = says f m (a .1) in
+      goes-on (λ (g : Feed Effect). stepsOf w (delivered f ++ m ∷ []) ≡ second pillar reader w g) f m s heard (acts-last w (second pillar reader w (feedOf f)) (delivered f) m s (second-steps w f (a .0)))
+  second-steps w (loses f m) a = goes-on (λ (g : Feed Effect). stepsOf w (delivered f) ≡ second pillar reader w g) f m (says f m (a .1)) lost (second-steps w f (a .0))
 
   -- what the second reader does with a message of the feed that it hears
-  pub heard-acts : (f : ByteFeed) (m : List ℕ) → Applied v (hears f m) → (w : View) → stepOf w (readOf m) ≡ actOn w (actIn m)
+  pub heard-says : (f : ByteFeed) (m : List ℕ) → Applied v (hears f m) → Says m
   unfolding Applied
-  heard-acts f m a w = step-acts w m (is-read f m (a .1))
+  heard-says f m a = says f m (a .1)
 
-  next-accepted : (f : ByteFeed) (m : List ℕ) → Applied v f → IsDone v (sent f) m → actOn (first pillar reader v (feedOf f)) (actIn m) .answer ≡ 0
+  pub heard-acts : (f : ByteFeed) (m : List ℕ) (a : Applied v (hears f m)) (w : View) → stepOf w (readOf m) ≡ actOn w (heard-says f m a .act)
+  heard-acts f m a w = step-acts w m (heard-says f m a .act) (heard-says f m a .is)
+
+  next-accepted : (f : ByteFeed) (m : List ℕ) → Applied v f → (d : IsDone v (sent f) m) → actOn (first pillar reader v (feedOf f)) (says f m d .act) .answer ≡ 0
   next-accepted f m a d =
-      ap (λ (x : View). actOn x (actIn m) .answer) (sym (first-steps f a))
-      ∙ sym (ap (λ (x : Next Symbol). x .answer) (step-acts (stepsOf v (sent f)) m (is-read f m d))) ∙ d
+      let s = says f m d in
+      ap (λ (x : View). actOn x (s .act) .answer) (sym (first-steps f a))
+      ∙ sym (ap (λ (x : Next Symbol). x .answer) (step-acts (stepsOf v (sent f)) m (s .act) (s .is))) ∙ d
 
   feed-accepted : (f : ByteFeed) → Applied v f → Accepted pillar reader v (feedOf f)
   unfolding Applied feedOf Accepted
   feed-accepted begins a = tt
-  feed-accepted (hears f m) a = (feed-accepted f (a .0), next-accepted f m (a .0) (a .1))
-  feed-accepted (loses f m) a = (feed-accepted f (a .0), next-accepted f m (a .0) (a .1))
+  feed-accepted (hears f m) a = goes-on (Accepted pillar reader v) f m (says f m (a .1)) heard (feed-accepted f (a .0), next-accepted f m (a .0) (a .1))
+  feed-accepted (loses f m) a = goes-on (Accepted pillar reader v) f m (says f m (a .1)) lost (feed-accepted f (a .0), next-accepted f m (a .0) (a .1))
 
   lost-numbered : (g : Feed Effect) (x : Act Effect) → Numbered x → ClearsHeard g → ClearsHeard (g ▷ lost x)
   unfolding ClearsHeard
@@ -126,8 +140,10 @@ module _ (v : View) where
   clears-heard : (f : ByteFeed) → Applied v f → ClearsDelivered f → ClearsHeard (feedOf f)
   unfolding Applied ClearsDelivered feedOf ClearsHeard
   clears-heard begins a c = tt
-  clears-heard (hears f m) a c = clears-heard f (a .0) c
-  clears-heard (loses f m) a c = lost-numbered (feedOf f) (actIn m) (act-numbered m (is-read f m (a .1)) (c .1)) (clears-heard f (a .0) (c .0))
+  clears-heard (hears f m) a c = goes-on ClearsHeard f m (says f m (a .1)) heard (clears-heard f (a .0) c)
+  clears-heard (loses f m) a c =
+      let s = says f m (a .1) in
+      goes-on ClearsHeard f m s lost (lost-numbered (feedOf f) (s .act) (act-numbered m (s .act) (s .is) (c .1)) (clears-heard f (a .0) (c .0)))
 
 -- ---- what is given of the bytes is given of the feed
 kept-registered : (x : Option Symbol) → IsSome (keptIf x) → IsSome x

@@ -1,13 +1,14 @@
 -- A feed as bytes: what is sent, what reaches the second reader, and what each message says.
 use Prim.Native.Nat.{ℕ}
 use mathlib.Core.List.{List, [], _∷_, _++_}
+use mathlib.Core.Option.{Option, none, some}
 use mathlib.Core.Path.{_≡_}
 use lib.ListN.{length}
 use Rattle.wire.specs.Outcome.{Outcome, done, refused}
 use Rattle.wire.specs.Reading.{msgType, reachOf, readOf}
 use Rattle.wire.specs.declared.Message.{Message}
-use Rattle.feed.specs.Reader.{Act, clear}
-use Rattle.feed.specs.Feed.{Feed, start, _▷_, heard, lost}
+use Rattle.feed.specs.Reader.{Act}
+use Rattle.feed.specs.Feed.{Item, Feed, start, _▷_, heard, lost}
 use Rattle.book.specs.State.{View}
 use Rattle.book.specs.Step.{stepOf, meant}
 use Rattle.book.specs.Walk.{stepsOf}
@@ -67,15 +68,20 @@ ClearsDelivered (hears f m) = ClearsDelivered f
 ClearsDelivered (loses f m) = ClearsDelivered f × (msgType m ≡ 32 → ⊥)
 
 -- ---- the same feed in the words of `feed`
--- what a message says; one that reading refuses says nothing, and no feed that is applied holds one
-abbrev pub said : Outcome Message → Act Effect
-said (done m) = meant m
-said (refused n) = clear 0 0
+-- what a message says: nothing, where reading refuses it
+abbrev pub said : Outcome Message → Option (Act Effect)
+said (done m) = some (meant m)
+said (refused n) = none
 
-abbrev pub actIn : List ℕ → Act Effect
+abbrev pub actIn : List ℕ → Option (Act Effect)
 actIn m = said (readOf m .outcome)
+
+-- a feed and then what is said; where nothing is, the feed as it was
+abbrev pub goesOn : Feed Effect → (Act Effect → Item Effect) → Option (Act Effect) → Feed Effect
+goesOn f way none = f
+goesOn f way (some a) = f ▷ way a
 
 unfoldable pub feedOf : ByteFeed → Feed Effect
 feedOf begins = start
-feedOf (hears f m) = feedOf f ▷ heard (actIn m)
-feedOf (loses f m) = feedOf f ▷ lost (actIn m)
+feedOf (hears f m) = goesOn (feedOf f) heard (actIn m)
+feedOf (loses f m) = goesOn (feedOf f) lost (actIn m)

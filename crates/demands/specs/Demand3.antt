@@ -3,11 +3,12 @@ use Prim.Native.Nat.{ℕ, _≤_}
 use mathlib.Core.Bool.{false}
 use mathlib.Core.List.{List, [], _∷_, _++_}
 use mathlib.Core.Logic.{_↔_}
+use mathlib.Core.Option.{some}
 use mathlib.Core.Path.{_≡_}
 use lib.ListN.{take, drop}
 use Rattle.wire.specs.Outcome.{done}
 use Rattle.wire.specs.Reading.{reachOf, readOf}
-use Rattle.feed.specs.Reader.{indexOf, clear}
+use Rattle.feed.specs.Reader.{Act, clear, indexOf}
 use Rattle.feed.specs.Feed.{Feed, _▷_, heard, phase}
 use Rattle.feed.specs.Book.{bookOf}
 use Rattle.feed.specs.Demand3.{NoneLost, AfterLoss, UntilClear, Since, NotLost, answered}
@@ -69,6 +70,12 @@ pub data AnswersZero (b : Book) : ByteFeed → Book → Type 0 where
   to-heard : {f : ByteFeed} {c : Book} {s : List ℕ} {at : ℕ} {m : List ℕ} {r : Moved} → AnswersZero b f c → StandsAt s at m → Moves c s at r → r .answer ≡ 0 → AnswersZero b (hears f m) (r .book)
   to-lost : {f : ByteFeed} {c : Book} {s : List ℕ} {at : ℕ} {m : List ℕ} {r : Moved} → AnswersZero b f c → StandsAt s at m → Moves c s at r → r .answer ≡ 0 → AnswersZero b (loses f m) (r .book)
 
+-- a message that the second reader hears after f says something, and this is the number that belongs to it
+pub record AnsweredAs (f : ByteFeed) (m : List ℕ) (answer : ℕ) : Type 0 where
+  pub act : Act Effect
+  pub says : actIn m ≡ some act
+  pub number : answer ≡ answered (phase (indexOf act) (feedOf f)) act
+
 -- the contract of `quote` says that it hands back this
 abbrev pub quoteIn : Book → ℕ → Quote
 quoteIn b index = quoteOf index (view b)
@@ -95,7 +102,7 @@ module _ (Takes : Book → List (List ℕ) → Book → Type 0) (b c : Book) whe
     -- from that clear on, whatever was lost before it, until another loss: it again agrees with the first
     pub from-that-clear-on : (index : ℕ) {next : ℕ} {h : Feed Effect} → Since (NotLost index) (h ▷ heard (clear index next)) (feedOf f) → quoteIn second index ≡ quoteIn first index
     -- and what it answers to the message m that it hears next: 0 while it agrees, 7 to the first numbered one after a loss, then 8
-    pub answers : {s : List ℕ} {at : ℕ} {m : List ℕ} {r : Moved} → Given b c (hears f m) → StandsAt s at m → Moves second s at r → r .answer ≡ answered (phase (indexOf (actIn m)) (feedOf f)) (actIn m)
+    pub answers : {s : List ℕ} {at : ℕ} {m : List ℕ} {r : Moved} → Given b c (hears f m) → StandsAt s at m → Moves second s at r → AnsweredAs f m (r .answer)
 
   -- DEMAND 3
   abbrev pub Demand3 : Type 0
