@@ -10,7 +10,7 @@ use borrow.Author.Tests.{ltb-false}
 use lib.Dec.{ltb}
 use lib.ListN.{getD, set}
 use lib.Seq.{set-getD}
-use Rattle.feed.specs.Reader.{Fit, Ruling, unchanged, made-stale, ruled, Act, clear, numbered, indexOf}
+use Rattle.feed.specs.Reader.{Fit, Ruling, unchanged, made-stale, ruled, Act, clearing, numbered, indexOf}
 use denote.Enum.Declared.{tagOf}
 use types.Run.{OneOf, miss}
 use Rattle.wire.specs.Outcome.{numberOf}
@@ -28,7 +28,7 @@ use Rattle.symbols.proofs.Entries.{entry-past}
 use Rattle.symbols.specs.Registering.{Next}
 use Rattle.book.specs.State.{Symbol, View, entryAt, ordersAt, tradesAt, symbolOf, view, entryOf, Wf}
 use Rattle.orders.specs.Rules.{applyTo}
-use Rattle.book.specs.Step.{changeOf, dealOf, madeStale, enacted, meets, refusing, put, actOn, meant, stepOn}
+use Rattle.book.specs.Step.{changeOf, dealOf, madeStale, enacted, meeting, refusing, put, actOn, meant, stepOn}
 use Rattle.book.specs.Promises.{unchanging, Obeys, Steps, Awaits, MakesStale, Settles}
 use Rattle.orders.specs.Promises.{Clears}
 use Rattle.orders.specs.declared.Order.{Order}
@@ -60,7 +60,7 @@ module _ (b : Book) (a : Act Effect) where
   unfolding actOn
   act-missing h = rw (symbol-missing b (indexOf a) h)
 
-  act-at : (k : ℕ) → k ≡ placeOf entryOf (indexOf a) (view b) → (r : SymbolAt b (indexOf a) k) → actOn (view b) a ≡ put (view b) k (meets (symbolOf (r .entry) (ordersAt b k) (tradesAt b k)) a)
+  act-at : (k : ℕ) → k ≡ placeOf entryOf (indexOf a) (view b) → (r : SymbolAt b (indexOf a) k) → actOn (view b) a ≡ put (view b) k (meeting (symbolOf (r .entry) (ordersAt b k) (tradesAt b k)) a)
   unfolding actOn
   act-at k e r = rw (r .there, ← e)
 
@@ -135,7 +135,7 @@ module _ (b : Book) (index n : ℕ) (e : Effect) (k t : ℕ) (asked : Asked b in
     comes-to r = put (view b) k (enacted symbol (dealOf e) r)
 
     met : actOn (view b) (numbered index n e) ≡ comes-to (ruled (at-k .entry .standing .stale) (ltb n (at-k .entry .standing .expected)) (ltb (at-k .entry .standing .expected) n) (applyTo (ordersAt b k) (changeOf e)))
-    unfolding meets
+    unfolding meeting
     met = act-at b (numbered index n e) k is at-k
 
     turned : t ≡ turnAnswer (at-k .entry .standing .stale) (ltb n (at-k .entry .standing .expected)) (ltb (at-k .entry .standing .expected) n)
@@ -156,15 +156,15 @@ module _ (b : Book) (index n : ℕ) (e : Effect) (k t : ℕ) (asked : Asked b in
     meet-in z = met ∙ ap comes-to (in-turn (applyTo (ordersAt b k) (changeOf e)) _ _ _ (sym turned ∙ z))
 
   -- 7: the symbol becomes stale
-  pub meets-above : (r : Done) → t ≡ 7 → MakesStale b k 7 r → Steps b (actOn (view b) (numbered index n e)) r
+  pub meeting-above : (r : Done) → t ≡ 7 → MakesStale b k 7 r → Steps b (actOn (view b) (numbered index n e)) r
   unfolding among
-  meets-above r z s =
+  meeting-above r z s =
       let h = within (λ five. omega (arith, z, five)) in
       changes b _ _ r (meet-stale h z) (ap unchanging (s .answer)) (λ w. rw (s .answer) (stales b k h (at-k h .entry) (at-k h .at) w 7 r s))
 
   -- 5, 6, 8: nothing changes
-  pub meets-away : t ≢ 7 → t ≢ 0 → Steps b (actOn (view b) (numbered index n e)) (record { book = b; answer = t })
-  meets-away p q = refuses b _ t (by-place k
+  pub meeting-away : t ≢ 7 → t ≢ 0 → Steps b (actOn (view b) (numbered index n e)) (record { book = b; answer = t })
+  meeting-away p q = refuses b _ t (by-place k
       (λ h. meet-refused h p q)
       (λ h. act-missing b (numbered index n e) (rw is at h) ∙ ap (refusing (view b)) (sym (past h))))
 
@@ -176,23 +176,23 @@ module _ (b : Book) (index n : ℕ) (e : Effect) (k t : ℕ) (asked : Asked b in
     pub awaits : n < numbers → Awaits b k
     awaits h = record { place = in-range; entry = at-k in-range .entry; there = at-k in-range .at; expected = rw (turn-number (at-k in-range .entry .standing .stale) n (at-k in-range .entry .standing .expected) (sym (turned in-range) ∙ z)) h }
 
-    pub meets-turn : (r : Done) → Settles b k e r → Steps b (actOn (view b) (numbered index n e)) r
-    meets-turn r s = changes b _ _ r (meet-in in-range z) (s .changes) (s .obeys (at-k in-range .entry) (at-k in-range .at))
+    pub meeting-turn : (r : Done) → Settles b k e r → Steps b (actOn (view b) (numbered index n e)) r
+    meeting-turn r s = changes b _ _ r (meet-in in-range z) (s .changes) (s .obeys (at-k in-range .entry) (at-k in-range .at))
 
 -- ---- a clear, by the place of its symbol
 module _ (b : Book) (index next k : ℕ) (place : k ≡ placeOf itself index (entries (b .symbols))) where
   cleared-at : k ≡ placeOf entryOf index (view b)
   cleared-at = place ∙ place-is b index
 
-  pub clears-nobody : symbols ≤ k → Steps b (actOn (view b) (clear index next)) (record { book = b; answer = 5 })
-  clears-nobody h = refuses b _ 5 (act-missing b (clear index next) (rw cleared-at at h))
+  pub clears-nobody : symbols ≤ k → Steps b (actOn (view b) (clearing index next)) (record { book = b; answer = 5 })
+  clears-nobody h = refuses b _ 5 (act-missing b (clearing index next) (rw cleared-at at h))
 
   pub clears-symbol : k < symbols → (s : Symbols) → Alters (b .symbols) k (restarted next) s → (os : Orders) → Clears (b .orders) k os
-      → Steps b (actOn (view b) (clear index next)) (record { book = record { symbols = s; orders = os; trades = b .trades }; answer = 0 })
-  unfolding among meets
+      → Steps b (actOn (view b) (clearing index next)) (record { book = record { symbols = s; orders = os; trades = b .trades }; answer = 0 })
+  unfolding among meeting
   clears-symbol h s a os c =
       let f = symbol-at b index k cleared-at h in
-      changes b _ _ _ (act-at b (clear index next) k cleared-at f) refl (λ w. clears b k h (f .entry) (f .at) w next s a os c)
+      changes b _ _ _ (act-at b (clearing index next) k cleared-at f) refl (λ w. clears b k h (f .entry) (f .at) w next s a os c)
 
 -- ---- what reading answered
 pub refused-read : (v : View) (a : Answer) → OneOf (1 ∷ 2 ∷ 3 ∷ 4 ∷ []) (tagOf answers.the-type a) → stepOn v (answeredAs a) ≡ refusing v (numberOf (answeredAs a))

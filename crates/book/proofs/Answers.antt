@@ -7,7 +7,7 @@ use mathlib.Core.Path.{_≡_, refl}
 use Prim.Native.Nat.{ℕ}
 use lib.Dec.{ltb}
 use lib.ListN.{take}
-use Rattle.feed.specs.Reader.{Fit, fits, misfit, no-room, ruled, Act, clear, numbered, indexOf}
+use Rattle.feed.specs.Reader.{Fit, fits, misfit, no-room, ruled, Act, clearing, numbered, indexOf}
 use Rattle.wire.specs.Outcome.{Outcome, done, refused}
 use Rattle.wire.specs.Reading.{reachOf, readOf}
 use Rattle.wire.specs.declared.Message.{Message}
@@ -19,7 +19,7 @@ use Rattle.orders.specs.Rules.{applyTo}
 use Rattle.orders.specs.declared.Order.{Order}
 use Rattle.record.specs.declared.Deal.{Deal}
 use Rattle.book.specs.State.{Symbol, View, entryOf, symbolIn}
-use Rattle.book.specs.Step.{changeOf, dealOf, enacted, meets, actAt, actOn, meant, stepOn, stepOf}
+use Rattle.book.specs.Step.{changeOf, dealOf, enacted, meeting, actAt, actOn, meant, stepOn, stepOf}
 use Rattle.book.specs.Registering.{toldIn}
 use Rattle.book.specs.Quote.{noQuote, quotedIf, quoted, quoteOf, volumeIn, volumeOf}
 use Rattle.book.specs.declared.acts.Effect.{Effect}
@@ -47,10 +47,10 @@ module _ (P : ℕ → Type 0) (each : Each P) where
   ruled-answers s false false false no-room d = each .room
   ruled-answers s false false false (fits os) d = each .done
 
-  meets-answers : (s : Symbol) (a : Act Effect) → P (meets s a .answer)
-  unfolding meets
-  meets-answers s (clear index next) = each .done
-  meets-answers s (numbered index n e) = ruled-answers s (s .entry .standing .stale) (ltb n (s .entry .standing .expected)) (ltb (s .entry .standing .expected) n) (applyTo (s .orders) (changeOf e)) (dealOf e)
+  meeting-answers : (s : Symbol) (a : Act Effect) → P (meeting s a .answer)
+  unfolding meeting
+  meeting-answers s (clearing index next) = each .done
+  meeting-answers s (numbered index n e) = ruled-answers s (s .entry .standing .stale) (ltb n (s .entry .standing .expected)) (ltb (s .entry .standing .expected) n) (applyTo (s .orders) (changeOf e)) (dealOf e)
 
   act-answers : (v : View) (a : Act Effect) → P (actOn v a .answer)
   unfolding actOn
@@ -58,7 +58,7 @@ module _ (P : ℕ → Type 0) (each : Each P) where
     where
       go : (x : Option Symbol) → P (actAt v (placeOf entryOf (indexOf a) v) x a .answer)
       go none = each .symbol
-      go (some s) = meets-answers s a
+      go (some s) = meeting-answers s a
 
   pub step-answers : (v : View) (s : List ℕ) (n : ℕ) → reachOf s ≡ done n → P (stepOf v (readOf (take n s)) .answer)
   unfolding stepOf

@@ -4,14 +4,14 @@ use mathlib.Core.Option.{Option, none, some}
 use mathlib.Core.Path.{_≡_, refl, ap, _∙_}
 use Prim.Native.Nat.{ℕ}
 use lib.ListN.{take, drop}
-use Rattle.feed.specs.Reader.{Ruling, unchanged, made-stale, applied, Act, clear, numbered, indexOf}
+use Rattle.feed.specs.Reader.{Ruling, unchanged, made-stale, applied, Act, clearing, numbered, indexOf}
 use Rattle.wire.specs.Outcome.{Outcome, done, refused}
 use Rattle.wire.specs.Reading.{Read, reachOf, readOf}
 use Rattle.wire.specs.declared.Message.{Message}
 use Rattle.symbols.specs.State.{placeOf}
 use Rattle.symbols.proofs.Finding.{put-own, put-others}
 use Rattle.book.specs.State.{Symbol, View, view, entryOf, symbolIn, Wf}
-use Rattle.book.specs.Step.{dealOf, enacted, meets, actAt, actOn, meant, stepOn, stepOf}
+use Rattle.book.specs.Step.{dealOf, enacted, meeting, actAt, actOn, meant, stepOn, stepOf}
 use Rattle.book.specs.Walk.{moveBy, moveOf, Moves}
 use Rattle.book.specs.declared.Book.{Book}
 use Rattle.book.specs.declared.walk.Moved.{Moved}
@@ -32,10 +32,10 @@ enacted-keeps-name s d (unchanged a) = record { index = refl; name = refl; len =
 enacted-keeps-name s d (made-stale a) = record { index = refl; name = refl; len = refl; scale = refl }
 enacted-keeps-name s d (applied os) = record { index = refl; name = refl; len = refl; scale = refl }
 
-meets-keeps-name : (s : Symbol) (a : Act Effect) → SameName s (meets s a .symbol)
-unfolding meets
-meets-keeps-name s (clear index next) = record { index = refl; name = refl; len = refl; scale = refl }
-meets-keeps-name s (numbered index n e) = enacted-keeps-name s (dealOf e) _
+meeting-keeps-name : (s : Symbol) (a : Act Effect) → SameName s (meeting s a .symbol)
+unfolding meeting
+meeting-keeps-name s (clearing index next) = record { index = refl; name = refl; len = refl; scale = refl }
+meeting-keeps-name s (numbered index n e) = enacted-keeps-name s (dealOf e) _
 
 -- ---- a message
 module _ (v : View) (a : Act Effect) where
@@ -43,9 +43,9 @@ module _ (v : View) (a : Act Effect) where
   unfolding actOn
   unregistered-stays e = rw e
 
-  pub own-symbol : (s : Symbol) → symbolIn (indexOf a) v ≡ some s → symbolIn (indexOf a) (actOn v a .view) ≡ some (meets s a .symbol)
+  pub own-symbol : (s : Symbol) → symbolIn (indexOf a) v ≡ some s → symbolIn (indexOf a) (actOn v a .view) ≡ some (meeting s a .symbol)
   unfolding actOn
-  own-symbol s e = rw e (put-own entryOf v (indexOf a) s (meets s a .symbol) e (meets-keeps-name s a .index))
+  own-symbol s e = rw e (put-own entryOf v (indexOf a) s (meeting s a .symbol) e (meeting-keeps-name s a .index))
 
   -- a message for one symbol changes nothing kept for another
   pub own-symbol-only : (i : ℕ) → (i ≡ indexOf a → ⊥) → symbolIn i (actOn v a .view) ≡ symbolIn i v
@@ -54,7 +54,7 @@ module _ (v : View) (a : Act Effect) where
     where
       go : (x : Option Symbol) → symbolIn (indexOf a) v ≡ x → symbolIn i (actAt v (placeOf entryOf (indexOf a) v) (symbolIn (indexOf a) v) a .view) ≡ symbolIn i v
       go none e = rw e
-      go (some s) e = rw e (put-others entryOf v (indexOf a) s (meets s a .symbol) e (meets-keeps-name s a .index) i ne)
+      go (some s) e = rw e (put-others entryOf v (indexOf a) s (meeting s a .symbol) e (meeting-keeps-name s a .index) i ne)
 
 -- ---- what was read: a refusal touches nobody, a message its own symbol
 module _ (v : View) (d : Read) (i : ℕ) (other : (m : Message) → d .outcome ≡ done m → i ≡ indexOf (meant m) → ⊥) where

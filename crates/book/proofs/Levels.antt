@@ -21,7 +21,7 @@ use Rattle.orders.proofs.Executing.{takes-off}
 use Rattle.record.specs.declared.Deal.{Deal}
 use Rattle.book.specs.declared.acts.Effect.{Effect}
 use Rattle.book.specs.State.{Symbol, View, entryOf, symbolIn, liveOf, liveIn}
-use Rattle.book.specs.Step.{changeOf, dealOf, enacted, meets, actAt, actOn}
+use Rattle.book.specs.Step.{changeOf, dealOf, enacted, meeting, actAt, actOn}
 use Rattle.book.specs.Quote.{quotedIf, quoted, quoteOf, sideOf}
 use Rattle.book.proofs.Isolation.{own-symbol}
 
@@ -78,9 +78,9 @@ add-done s o false false false (some x) room d e = absurd (omega (arith, e))
 add-done s o false false false none false d e = absurd (omega (arith, e))
 add-done s o false false false none true d e = record { orders = refl; stale = refl }
 
-meets-adds : (s : Symbol) (index number n : ℕ) (buy : Bool) (p v : ℕ) → meets s (numbered index number (Effect.Add n buy p v)) .answer ≡ 0 → AddsOrder s (meets s (numbered index number (Effect.Add n buy p v)) .symbol) (orderOf n buy p v)
-unfolding meets applyTo
-meets-adds s index number n buy p v e = add-done s (orderOf n buy p v) (s .entry .standing .stale) (ltb number (s .entry .standing .expected)) (ltb (s .entry .standing .expected) number) (look orderNumber n (s .orders)) (ltb (length (s .orders)) ordersEach) Deal.Nothing e
+meeting-adds : (s : Symbol) (index number n : ℕ) (buy : Bool) (p v : ℕ) → meeting s (numbered index number (Effect.Add n buy p v)) .answer ≡ 0 → AddsOrder s (meeting s (numbered index number (Effect.Add n buy p v)) .symbol) (orderOf n buy p v)
+unfolding meeting applyTo
+meeting-adds s index number n buy p v e = add-done s (orderOf n buy p v) (s .entry .standing .stale) (ltb number (s .entry .standing .expected)) (ltb (s .entry .standing .expected) number) (look orderNumber n (s .orders)) (ltb (length (s .orders)) ordersEach) Deal.Nothing e
 
 shown-side : (buy stale : Bool) (os : List Order) → stale ≡ false → sideOf buy (quotedIf stale os) ≡ levelOf buy os
 shown-side true stale os e = rw e
@@ -92,8 +92,8 @@ pub case-d : (buy : Bool) (v : View) (index number n p vol m : ℕ) (s : Symbol)
 unfolding quoteOf actOn
 case-d buy v index number n p vol m s e q z =
     let shown = quoted-side buy v index s p m e q in
-    let done : meets s (numbered index number (Effect.Add n buy p vol)) .answer ≡ 0 = (rw e at z) in
-    let added-it = meets-adds s index number n buy p vol done in
+    let done : meeting s (numbered index number (Effect.Add n buy p vol)) .answer ≡ 0 = (rw e at z) in
+    let added-it = meeting-adds s index number n buy p vol done in
     ap (λ (x : Option Symbol). sideOf buy (quoted x)) (own-symbol v (numbered index number (Effect.Add n buy p vol)) s e)
     ∙ shown-side buy _ _ (added-it .stale ∙ shown .0)
     ∙ ap (levelOf buy) (added-it .orders)
@@ -109,9 +109,9 @@ ruled-done s false false false misfit d e = absurd (omega (arith, e))
 ruled-done s false false false no-room d e = absurd (omega (arith, e))
 ruled-done s false false false (fits os) d e = refl
 
-meets-done : (s : Symbol) (index number : ℕ) (f : Effect) → meets s (numbered index number f) .answer ≡ 0 → applyTo (s .orders) (changeOf f) ≡ fits (meets s (numbered index number f) .symbol .orders)
-unfolding meets
-meets-done s index number f e = ruled-done s (s .entry .standing .stale) (ltb number (s .entry .standing .expected)) (ltb (s .entry .standing .expected) number) (applyTo (s .orders) (changeOf f)) (dealOf f) e
+meeting-done : (s : Symbol) (index number : ℕ) (f : Effect) → meeting s (numbered index number f) .answer ≡ 0 → applyTo (s .orders) (changeOf f) ≡ fits (meeting s (numbered index number f) .symbol .orders)
+unfolding meeting
+meeting-done s index number f e = ruled-done s (s .entry .standing .stale) (ltb number (s .entry .standing .expected)) (ltb (s .entry .standing .expected) number) (applyTo (s .orders) (changeOf f)) (dealOf f) e
 
 pub execution : (v : View) (index number n vol : ℕ) (deal : Deal) → ((s : Symbol) → symbolIn index v ≡ some s → (o : Order) → List·Memᴰ o (s .orders) → o .live ≡ true)
     → actOn v (numbered index number (Effect.Execute n vol deal)) .answer ≡ 0 → TakesOff n vol (liveIn index v) (liveIn index (actOn v (numbered index number (Effect.Execute n vol deal)) .view))
@@ -123,5 +123,5 @@ execution v index number n vol deal live = go (symbolIn index v) refl
     go none q z = absurd (omega (arith, z))
     go (some s) q z =
         subst (λ (x : Option Symbol). TakesOff n vol (liveIn index v) (liveOf x)) (sym (own-symbol v (numbered index number (Effect.Execute n vol deal)) s q))
-        (subst (λ (x : Option Symbol). TakesOff n vol (liveOf x) (meets s (numbered index number (Effect.Execute n vol deal)) .symbol .orders)) (sym q)
-        (takes-off (s .orders) n vol _ (live s q) (meets-done s index number (Effect.Execute n vol deal) z)))
+        (subst (λ (x : Option Symbol). TakesOff n vol (liveOf x) (meeting s (numbered index number (Effect.Execute n vol deal)) .symbol .orders)) (sym q)
+        (takes-off (s .orders) n vol _ (live s q) (meeting-done s index number (Effect.Execute n vol deal) z)))

@@ -7,13 +7,13 @@ use Prim.Native.Nat.{ℕ}
 use borrow.Author.Tests.{eqb-true, eqb-false}
 use lib.Dec.{eqb}
 use lib.ListN.{take, drop}
-use Rattle.feed.specs.Reader.{Ruling, unchanged, made-stale, applied, Act, clear, numbered, indexOf}
+use Rattle.feed.specs.Reader.{Ruling, unchanged, made-stale, applied, Act, clearing, numbered, indexOf}
 use Rattle.wire.specs.Outcome.{Outcome, done, refused}
 use Rattle.wire.specs.Reading.{Read, reachOf, readOf}
 use Rattle.wire.specs.declared.Message.{Message}
 use Rattle.book.specs.State.{Symbol, View, view, symbolIn, Wf}
 use Rattle.record.specs.Rules.{dealTo}
-use Rattle.book.specs.Step.{dealOf, enacted, meets, actOn, meant, stepOn, stepOf}
+use Rattle.book.specs.Step.{dealOf, enacted, meeting, actOn, meant, stepOn, stepOf}
 use Rattle.book.specs.Quote.{volumeIn, volumeOf}
 use Rattle.book.specs.Walk.{moveBy, moveOf, walkOf, stepsOf, runOf, Moves, Runs}
 use Rattle.book.specs.declared.Book.{Book}
@@ -38,9 +38,9 @@ enacted-lost s d (unchanged a) e = e
 enacted-lost s d (made-stale a) e = refl
 enacted-lost s d (applied os) e = still-lost (dealTo (s .trades) d .lost) (s .entry .standing .whole) e
 
-pub mark-never-returns : (s : Symbol) (a : Act Effect) → s .entry .standing .whole ≡ false → meets s a .symbol .entry .standing .whole ≡ false
-unfolding meets
-mark-never-returns s (clear index next) e = kept-or-lost (eqb next (s .entry .standing .expected)) (s .entry .standing .whole) e
+pub mark-never-returns : (s : Symbol) (a : Act Effect) → s .entry .standing .whole ≡ false → meeting s a .symbol .entry .standing .whole ≡ false
+unfolding meeting
+mark-never-returns s (clearing index next) e = kept-or-lost (eqb next (s .entry .standing .expected)) (s .entry .standing .whole) e
 mark-never-returns s (numbered index n effect) e = enacted-lost s (dealOf effect) _ e
 
 -- ---- and so for the rest of the day, whatever messages come

@@ -8,7 +8,7 @@ use native.Mathlib.Omega.{arith}
 use lib.Dec.{ltb}
 use lib.ListN.{set}
 use lib.Seq.{set-getD}
-use Rattle.feed.specs.Reader.{Fit, fits, misfit, no-room, ruled, Act, clear, numbered, indexOf}
+use Rattle.feed.specs.Reader.{Fit, fits, misfit, no-room, ruled, Act, clearing, numbered, indexOf}
 use Rattle.wire.specs.Outcome.{Outcome, done, refused}
 use Rattle.wire.specs.Reading.{Read}
 use Rattle.wire.specs.declared.Message.{Message}
@@ -16,7 +16,7 @@ use Rattle.places.specs.Places.{among}
 use Rattle.symbols.specs.State.{placeOf, foundIn}
 use Rattle.book.specs.State.{Symbol, View, entryOf, symbolIn}
 use Rattle.orders.specs.Rules.{applyTo}
-use Rattle.book.specs.Step.{changeOf, dealOf, madeStale, enacted, meets, actAt, actOn, meant, stepOn, stepOf}
+use Rattle.book.specs.Step.{changeOf, dealOf, madeStale, enacted, meeting, actAt, actOn, meant, stepOn, stepOf}
 use Rattle.book.specs.Promises.{unchanging, staling, BecomesStale}
 use Rattle.orders.specs.declared.Order.{Order}
 use Rattle.book.specs.declared.acts.Effect.{Effect}
@@ -35,10 +35,10 @@ ruled-unchanged s false false false misfit d e = never e
 ruled-unchanged s false false false no-room d e = never e
 ruled-unchanged s false false false (fits os) d e = never e
 
-meets-unchanged : (s : Symbol) (a : Act Effect) → unchanging (meets s a .answer) ≡ true → meets s a .symbol ≡ s
-unfolding meets among
-meets-unchanged s (clear index next) e = never e
-meets-unchanged s (numbered index n f) e = ruled-unchanged s (s .entry .standing .stale) (ltb n (s .entry .standing .expected)) (ltb (s .entry .standing .expected) n) (applyTo (s .orders) (changeOf f)) (dealOf f) e
+meeting-unchanged : (s : Symbol) (a : Act Effect) → unchanging (meeting s a .answer) ≡ true → meeting s a .symbol ≡ s
+unfolding meeting among
+meeting-unchanged s (clearing index next) e = never e
+meeting-unchanged s (numbered index n f) e = ruled-unchanged s (s .entry .standing .stale) (ltb n (s .entry .standing .expected)) (ltb (s .entry .standing .expected) n) (applyTo (s .orders) (changeOf f)) (dealOf f) e
 
 pub act-unchanged : (v : View) (a : Act Effect) → unchanging (actOn v a .answer) ≡ true → actOn v a .view ≡ v
 unfolding actOn foundIn
@@ -46,7 +46,7 @@ act-unchanged v a = go (symbolIn (indexOf a) v) refl
   where
     go : (x : Option Symbol) → symbolIn (indexOf a) v ≡ x → unchanging (actAt v (placeOf entryOf (indexOf a) v) x a .answer) ≡ true → actAt v (placeOf entryOf (indexOf a) v) x a .view ≡ v
     go none q e = refl
-    go (some s) q e = ap (λ (t : Symbol). set v (placeOf entryOf (indexOf a) v) (some t)) (meets-unchanged s a e) ∙ ap (set v (placeOf entryOf (indexOf a) v)) (sym q) ∙ set-getD v (placeOf entryOf (indexOf a) v) none
+    go (some s) q e = ap (λ (t : Symbol). set v (placeOf entryOf (indexOf a) v) (some t)) (meeting-unchanged s a e) ∙ ap (set v (placeOf entryOf (indexOf a) v)) (sym q) ∙ set-getD v (placeOf entryOf (indexOf a) v) none
 
 pub refused-view : (v : View) (d : Read) → unchanging (stepOf v d .answer) ≡ true → stepOf v d .view ≡ v
 unfolding stepOf
@@ -66,10 +66,10 @@ ruled-stale s false false false misfit d e = refl
 ruled-stale s false false false no-room d e = refl
 ruled-stale s false false false (fits os) d e = never e
 
-meets-stale : (s : Symbol) (a : Act Effect) → staling (meets s a .answer) ≡ true → meets s a .symbol ≡ madeStale s
-unfolding meets among
-meets-stale s (clear index next) e = never e
-meets-stale s (numbered index n f) e = ruled-stale s (s .entry .standing .stale) (ltb n (s .entry .standing .expected)) (ltb (s .entry .standing .expected) n) (applyTo (s .orders) (changeOf f)) (dealOf f) e
+meeting-stale : (s : Symbol) (a : Act Effect) → staling (meeting s a .answer) ≡ true → meeting s a .symbol ≡ madeStale s
+unfolding meeting among
+meeting-stale s (clearing index next) e = never e
+meeting-stale s (numbered index n f) e = ruled-stale s (s .entry .standing .stale) (ltb n (s .entry .standing .expected)) (ltb (s .entry .standing .expected) n) (applyTo (s .orders) (changeOf f)) (dealOf f) e
 
 pub stale-view : (v : View) (a : Act Effect) → staling (actOn v a .answer) ≡ true → BecomesStale v (indexOf a) (actOn v a .view)
 unfolding actOn among
@@ -77,4 +77,4 @@ stale-view v a = go (symbolIn (indexOf a) v) refl
   where
     go : (x : Option Symbol) → symbolIn (indexOf a) v ≡ x → staling (actAt v (placeOf entryOf (indexOf a) v) x a .answer) ≡ true → BecomesStale v (indexOf a) (actAt v (placeOf entryOf (indexOf a) v) x a .view)
     go none q e = never e
-    go (some s) q e = record { symbol = s; there = q; next-view = ap (λ (t : Symbol). set v (placeOf entryOf (indexOf a) v) (some t)) (meets-stale s a e) }
+    go (some s) q e = record { symbol = s; there = q; next-view = ap (λ (t : Symbol). set v (placeOf entryOf (indexOf a) v) (some t)) (meeting-stale s a e) }

@@ -19,7 +19,7 @@ use Rattle.orders.specs.declared.Order.{Order}
 use Rattle.record.specs.State as record-room
 use Rattle.record.specs.declared.Trade.{Trade}
 use Rattle.book.specs.State.{Symbol, entryAt, ordersAt, tradesAt, symbolOf, view, entryOf, symbolIn, Wf}
-use Rattle.book.specs.Step.{Reply, put}
+use Rattle.book.specs.Step.{Meeting, put}
 use Rattle.book.specs.Promises.{Obeys}
 use Rattle.book.specs.declared.Book.{Book}
 
@@ -115,7 +115,7 @@ module _ (b r : Book) (k : ℕ) (in-range : k < symbols) (apart : ButAt k b r) w
         trades-empty m h n false q = let ne = eqb-false m k q in apart .trades m ne ∙ w .no-trades m h (sym (apart .entries m ne) ∙ n)
 
     -- so a store at place k, with the symbol that the rule says, obeys the rule
-    pub obeys-at : (x : Reply) → Wf b → SoundRooms r → symbolOf e (ordersAt r k) (tradesAt r k) ≡ x .symbol → Obeys (put (view b) k x) r (x .answer)
+    pub obeys-at : (x : Meeting) → Wf b → SoundRooms r → symbolOf e (ordersAt r k) (tradesAt r k) ≡ x .symbol → Obeys (put (view b) k x) r (x .answer)
     obeys-at x w s q = record {
       wf = wf-but-one w s;
       next-view = view-but-one ∙ ap (λ (y : Option Symbol). set (view b) k y) (ap (λ (y : Option Entry). seen y (ordersAt r k) (tradesAt r k)) at ∙ ap some q);

@@ -5,7 +5,7 @@ use mathlib.Core.Option.{Option, none, some}
 use Prim.Native.Nat.{ℕ}
 use lib.Dec.{ltb, eqb}
 use lib.ListN.{set}
-use Rattle.feed.specs.Reader.{Ruling, unchanged, made-stale, applied, ruled, Act, clear, numbered, indexOf}
+use Rattle.feed.specs.Reader.{Ruling, unchanged, made-stale, applied, ruled, Act, clearing, numbered, indexOf}
 use Rattle.wire.specs.Outcome.{Outcome, done, refused}
 use Rattle.wire.specs.Fields.{buyLetter}
 use Rattle.wire.specs.Reading.{Read}
@@ -25,7 +25,7 @@ use Rattle.book.specs.declared.acts.Effect.{Effect}
 use Rattle.book.specs.declared.acts as code
 
 -- ---- one symbol: what is kept after a message, and the answer
-pub record Reply : Type 0 where
+pub record Meeting : Type 0 where
   pub symbol : Symbol
   pub answer : ℕ
 
@@ -38,13 +38,13 @@ abbrev pub madeStale : Symbol → Symbol
 madeStale s = becomes s (staled (s .entry .standing)) (s .orders) (s .trades)
 
 -- a ruling carried out; `ruled` has the rows of "Numbers answered"
-unfoldable pub enacted : Symbol → Deal → Ruling (List Order) → Reply
+unfoldable pub enacted : Symbol → Deal → Ruling (List Order) → Meeting
 enacted s d (unchanged a) = record { symbol = s; answer = a }
 enacted s d (made-stale a) = record { symbol = madeStale s; answer = a }
 enacted s d (applied os) = record { symbol = becomes s (counted (dealTo (s .trades) d .lost) (s .entry .standing)) os (dealTo (s .trades) d .trades); answer = 0 }
 
 -- a clear: no orders, and a new start of the numbers
-abbrev pub cleared : Symbol → ℕ → Reply
+abbrev pub cleared : Symbol → ℕ → Meeting
 cleared s next = record { symbol = becomes s (restarted next (s .entry .standing)) [] (s .trades); answer = 0 }
 
 -- each effect taken apart: what it does to the orders, and what it brings to the record
@@ -62,21 +62,21 @@ changeOf e = apart e .0
 abbrev pub dealOf : Effect → Deal
 dealOf e = apart e .1
 
-unfoldable pub meets : Symbol → Act Effect → Reply
-meets s (clear index next) = cleared s next
-meets s (numbered index n e) = enacted s (dealOf e) (ruled (s .entry .standing .stale) (ltb n (s .entry .standing .expected)) (ltb (s .entry .standing .expected) n) (applyTo (s .orders) (changeOf e)))
+unfoldable pub meeting : Symbol → Act Effect → Meeting
+meeting s (clearing index next) = cleared s next
+meeting s (numbered index n e) = enacted s (dealOf e) (ruled (s .entry .standing .stale) (ltb n (s .entry .standing .expected)) (ltb (s .entry .standing .expected) n) (applyTo (s .orders) (changeOf e)))
 
 -- ---- the eight symbols: the next view, and the answer
 abbrev pub refusing : View → ℕ → Next Symbol
 refusing v a = record { view = v; answer = a }
 
-abbrev pub put : View → ℕ → Reply → Next Symbol
+abbrev pub put : View → ℕ → Meeting → Next Symbol
 put v k r = record { view = set v k (some (r .symbol)); answer = r .answer }
 
 -- a symbol that is not registered answers 5; another one's place stays as it was
 abbrev pub actAt : View → ℕ → Option Symbol → Act Effect → Next Symbol
 actAt v k none a = refusing v 5
-actAt v k (some s) a = put v k (meets s a)
+actAt v k (some s) a = put v k (meeting s a)
 
 unfoldable pub actOn : View → Act Effect → Next Symbol
 actOn v a = actAt v (placeOf entryOf (indexOf a) v) (symbolIn (indexOf a) v) a
@@ -101,12 +101,12 @@ meant (Message.Cross h cross p v class) = numbered (h .index) (h .number) (Effec
 meant (Message.TradeCancel h t) = numbered (h .index) (h .number) (Effect.Other (Deal.Cancels t))
 meant (Message.CrossCorrection h cross v) = numbered (h .index) (h .number) (Effect.Other Deal.Nothing)
 meant (Message.Retail h indicator) = numbered (h .index) (h .number) (Effect.Other Deal.Nothing)
-meant (Message.Clear h seconds) = clear (h .index) (h .number)
+meant (Message.Clear h seconds) = clearing (h .index) (h .number)
 meant (Message.Status h seconds) = numbered (h .index) (h .number) (Effect.Other Deal.Nothing)
 
 -- the code's word for it
 abbrev pub actedAs : code.Act.Act → Act Effect
-actedAs (code.Act.Act.Clear index next) = clear index next
+actedAs (code.Act.Act.Clear index next) = clearing index next
 actedAs (code.Act.Act.Numbered index n e) = numbered index n e
 
 -- ---- the step: answers 1 to 4 leave all as it was

@@ -5,7 +5,7 @@ use crate::acts::Effect;
 use orders::Change;
 use places::SYMBOLS;
 use record::Deal;
-ghost use Rattle.feed.specs.Reader.{clear};
+ghost use Rattle.feed.specs.Reader.{clearing};
 ghost use Rattle.book.specs.State.{view};
 ghost use Rattle.book.specs.Promises.{Steps, Awaits, Settles};
 ghost use Rattle.book.specs.Step.{actOn};
@@ -67,7 +67,7 @@ impl Book {
     }
 
     pub(crate) fn clear(mut self, index: u32, next: u32) -> Done
-        ensures { λ r. ⌜ Steps self (actOn (view self) (clear index next)) r ⌝ }
+        ensures { λ r. ⌜ Steps self (actOn (view self) (clearing index next)) r ⌝ }
     {
         let symbols = self.symbols;
         let k = symbols.place_of(index);

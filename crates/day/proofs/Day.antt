@@ -21,7 +21,7 @@ use Rattle.demands.specs.Examples.{HasABC}
 use Rattle.orders.specs.Levels.{bestStep, sharesAt, levelOf}
 use Rattle.book.specs.Quote.{quoteOf}
 use Rattle.feed.specs.Reader.{ruled}
-use Rattle.book.specs.Step.{enacted, meets, actOn, meant, stepOf}
+use Rattle.book.specs.Step.{enacted, meeting, actOn, meant, stepOf}
 use Rattle.book.specs.Walk.{moveOf, stepsOf}
 use Rattle.demands.specs.Messages.{index}
 use Rattle.demands.proofs.Starting.{began-wf}
@@ -46,7 +46,7 @@ all-by-calls [] h = tt
 all-by-calls (r ∷ rs) h = (by-calls r (h .0), all-by-calls rs (h .1))
 
 by-rule : AllRows ByRule rows
-unfolding value littleEndian shapeOf faultBy faultOf reachBy reachOf readBy readBody readSized readShape readTyped readReached readOf firstWhere fold sumBy insert remove look placeOf foundIn vacancyOf applyTo dealTo nameBad registered bestStep sharesAt levelOf quoteOf ruled enacted meets actOn meant stepOf moveOf stepsOf
+unfolding value littleEndian shapeOf faultBy faultOf reachBy reachOf readBy readBody readSized readShape readTyped readReached readOf firstWhere fold sumBy insert remove look placeOf foundIn vacancyOf applyTo dealTo nameBad registered bestStep sharesAt levelOf quoteOf ruled enacted meeting actOn meant stepOf moveOf stepsOf
 by-rule = (refl, (refl, (refl, (refl, (refl, (refl, (refl, (refl, (refl, (refl, (refl, (refl, (refl, tt)))))))))))))
 
 -- what is told of ABC is what the marked case has

@@ -16,7 +16,7 @@ use Rattle.page.specs.Printing.{printed, lineOf, told}
 use Rattle.page.specs.Marked as marked
 use Rattle.demands.specs.Demand3.{Reads}
 use Rattle.demands.specs.Examples.{HasABC, viewABC}
-use Rattle.demands.specs.Messages.{index, buy, add, delete, execute, replace, clear, shows, none, _at_}
+use Rattle.demands.specs.Messages.{index, buy, add, delete, execute, replace, clear, shows, no-level, _at_}
 
 -- what a call of `apply` at the start of some bytes answers, how far it moves, and what is then quoted of ABC
 pub record Result : Type 0 where
@@ -85,29 +85,29 @@ the-first n = take n messages
 abbrev pub rows : List Row
 rows =
     -- A: empty input
-    row [] [] 1 0 (shows none none)
+    row [] [] 1 0 (shows no-level no-level)
     -- B: Msg Size 3
-    ∷ row [] (3 ∷ 0 ∷ 100 ∷ 0 ∷ []) 2 0 (shows none none)
+    ∷ row [] (3 ∷ 0 ∷ 100 ∷ 0 ∷ []) 2 0 (shows no-level no-level)
     -- C
-    ∷ row [] messageC 0 39 (shows (200 at 1234500) none)
+    ∷ row [] messageC 0 39 (shows (200 at 1234500) no-level)
     -- D
-    ∷ row (the-first 1) messageD 0 39 (shows (250 at 1234500) none)
+    ∷ row (the-first 1) messageD 0 39 (shows (250 at 1234500) no-level)
     -- E
-    ∷ row (the-first 2) messageE 0 42 (shows (50 at 1234500) none)
+    ∷ row (the-first 2) messageE 0 42 (shows (50 at 1234500) no-level)
     -- F
-    ∷ row (the-first 3) messageF 0 42 (shows (70 at 1235000) none)
+    ∷ row (the-first 3) messageF 0 42 (shows (70 at 1235000) no-level)
     -- G: a gap, and a quote answers 8
     ∷ row (the-first 4) messageG 7 25 (noQuote 8)
     -- H: the number that was missing
     ∷ row (the-first 5) messageH 8 25 (noQuote 8)
     -- I: the clear
-    ∷ row (the-first 6) messageI 0 20 (shows none none)
+    ∷ row (the-first 6) messageI 0 20 (shows no-level no-level)
     -- J: a number below the one that the clear gave, and then that one
-    ∷ row (the-first 7) messageJ 6 39 (shows none none)
-    ∷ row (the-first 8) (add 9 1003 buy 1234500 100) 0 39 (shows (100 at 1234500) none)
+    ∷ row (the-first 7) messageJ 6 39 (shows no-level no-level)
+    ∷ row (the-first 8) (add 9 1003 buy 1234500 100) 0 39 (shows (100 at 1234500) no-level)
     -- K: in F's state, one share too many, and all of them
     ∷ row (the-first 4) (execute 5 1002 2 1235000 71) 9 42 (noQuote 8)
-    ∷ row (the-first 4) (execute 5 1002 2 1235000 70) 0 42 (shows none none)
+    ∷ row (the-first 4) (execute 5 1002 2 1235000 70) 0 42 (shows no-level no-level)
     ∷ []
 
 -- ---- L: the line of #3, an add, read from its bytes, into any buffer that has room

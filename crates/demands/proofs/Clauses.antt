@@ -3,7 +3,7 @@ use mathlib.Core.Bool.{false}
 use mathlib.Core.List.{List}
 use mathlib.Core.Path.{_≡_}
 use Prim.Native.Nat.{ℕ}
-use Rattle.feed.specs.Reader.{clear}
+use Rattle.feed.specs.Reader.{clearing}
 use Rattle.feed.specs.Feed.{Feed, _▷_, heard}
 use Rattle.feed.specs.Book.{bookOf}
 use Rattle.feed.specs.Demand3.{NoneLost, AfterLoss, UntilClear, Since, NotLost}
@@ -30,7 +30,7 @@ module _ (b c : Book) (f : ByteFeed) (first second : Book) (at : Now Reads b c f
   pub then-refused-until-a-clear : UntilClear index (feedOf f) → quoteIn second index ≡ noQuote 8
   then-refused-until-a-clear = demand-3-holds b c f first second at .refused-until-a-clear index
 
-  pub from-that-clear-on : {next : ℕ} {h : Feed Effect} → Since (NotLost index) (h ▷ heard (clear index next)) (feedOf f) → quoteIn second index ≡ quoteIn first index
+  pub from-that-clear-on : {next : ℕ} {h : Feed Effect} → Since (NotLost index) (h ▷ heard (clearing index next)) (feedOf f) → quoteIn second index ≡ quoteIn first index
   from-that-clear-on = demand-3-holds b c f first second at .from-that-clear-on index
 
 pub answered-0-then-7-then-8 : (b c : Book) (f : ByteFeed) (first second : Book) → Now Reads b c f first second → {s : List ℕ} {at : ℕ} {m : List ℕ} {r : Moved}

@@ -2,7 +2,7 @@
 use Prim.Native.Nat.{ℕ, _≤_, _<_}
 use native.Mathlib.Omega.{arith}
 use mathlib.Core.Bool.{Bool, true, false, cond, false≢true}
-use mathlib.Core.List.{List, [], _∷_}
+use mathlib.Core.List.{List, [], _∷_, _++_}
 use mathlib.Core.Logic.{_≢_}
 use mathlib.Core.Option.{Option, none, some}
 use mathlib.Core.Path.{_≡_, refl, sym, ap, _∙_}
@@ -15,7 +15,7 @@ use Rattle.wire.specs.Writing.{countOf, Write, writeOf}
 use Rattle.wire.specs.declared.Message.{Message}
 use Rattle.wire.proofs.Cases.{done-is-not-refused, reached, reach-short, reach-small, reach-beyond, reach-size}
 use Rattle.wire.proofs.Refusing.{reach-refused, read-refused, reached-refused, write-refused, write-fills}
-use Rattle.feed.specs.Reader.{Fit, fits, misfit, no-room, ruled, Act, clear, numbered, indexOf}
+use Rattle.feed.specs.Reader.{Fit, fits, misfit, no-room, ruled, Act, clearing, numbered, indexOf}
 use Rattle.places.specs.Places.{among}
 use Rattle.symbols.specs.State.{placeOf}
 use Rattle.symbols.specs.Registering.{Next, toldOf}
@@ -23,8 +23,8 @@ use Rattle.symbols.specs.declared.registering.Listing.{Listing}
 use Rattle.symbols.proofs.Finding.{register-answers}
 use Rattle.orders.specs.Rules.{applyTo}
 use Rattle.book.specs.State.{Symbol, View, view, entryOf, symbolIn, liveOf, liveIn}
-use Rattle.book.specs.Step.{changeOf, dealOf, enacted, meets, actAt, actOn, meant, stepOn, stepOf}
-use Rattle.book.specs.Registering.{started, registerOf, toldIn, Told}
+use Rattle.book.specs.Step.{changeOf, dealOf, enacted, meeting, actAt, actOn, meant, stepOn, stepOf}
+use Rattle.book.specs.Registering.{started, registerOf, toldIn}
 use Rattle.book.specs.Promises.{unchanging, staling, Steps}
 use Rattle.book.specs.Walk.{landing, stopping, moveBy, moveOf, walkOf, runOf, Moves}
 use Rattle.book.specs.Reached.{Reached}
@@ -37,7 +37,7 @@ use Rattle.book.proofs.Positions.{position-is-sum, stops-there}
 use Rattle.book.proofs.Reaching.{reached-wf, alike}
 use Rattle.book.proofs.Refusals.{stale-view}
 use Rattle.demands.specs.Reader.{Orders, Effect}
-use Rattle.demands.specs.Demand1.{OneOf, Answers, Numbers, LeavesStale, Refusals, TooFew, no-size, cut, Stays, Passes, Positions, Demand1}
+use Rattle.demands.specs.Demand1.{OneOf, Answers, WireNumbers, BookNumbers, Buffers, LeavesStale, Refusals, States, Questions, TooFew, no-size, cut, Stays, Passes, Positions, Moving, Demand1}
 use Rattle.demands.specs.Demand3.{StandsAt}
 use Rattle.demands.proofs.Demand3.{stands-acts}
 
@@ -78,11 +78,18 @@ move-numbers v s at = go (reachOf (drop at s)) refl
     go (done n) e = step-answers (OneOf ofMessage) (record { done = refl; size = refl; type = refl; field = refl; symbol = refl; below = refl; above = refl; stale = refl; fit = refl; room = refl }) v (drop at s) n e
     go (refused k) e = reach-refused (OneOf ofMessage) refl refl (drop at s) k e
 
--- ---- what is told of a symbol is what the rule says
-told-is : {b : Book} {r : Listing} → Reached b → (index : ℕ) → Told b index r → r ≡ toldIn index (view b)
-told-is p index t = t .obeys (reached-wf p)
+-- ---- the answers that change nothing
+-- a number that is in a list is in a longer one
+among-more : (a : ℕ) (l more : List ℕ) → among a l ≡ true → among a (l ++ more) ≡ true
+unfolding among
+among-more a [] more e = absurd (false≢true e)
+among-more a (n ∷ l) more e = go (among-more a l more) (eqb a n) e
+  where
+    go : (among a l ≡ true → among a (l ++ more) ≡ true) → (here : Bool) → cond here true (among a l) ≡ true → cond here true (among a (l ++ more)) ≡ true
+    go ih true h = refl
+    go ih false h = ih h
 
--- ---- a registering that is refused is one that changes nothing
+-- a registering that is refused is one that changes nothing
 refused-registering : (a : ℕ) → OneOf (0 ∷ 11 ∷ 12 ∷ 13 ∷ []) a → a ≢ 0 → unchanging a ≡ true
 unfolding among
 refused-registering a h n = go (eqb a 0) (eqb a 11) (eqb a 12) (eqb a 13) refl refl refl refl h
@@ -108,10 +115,10 @@ ruled-keeps-orders s false false false misfit d n = refl
 ruled-keeps-orders s false false false no-room d n = refl
 ruled-keeps-orders s false false false (fits os) d n = absurd (n refl)
 
-meets-keeps-orders : (s : Symbol) (a : Act Effect) → UnlessDone (meets s a .answer) (s .orders) (meets s a .symbol .orders)
-unfolding meets
-meets-keeps-orders s (clear index next) = λ n. absurd (n refl)
-meets-keeps-orders s (numbered index n e) = ruled-keeps-orders s (s .entry .standing .stale) (ltb n (s .entry .standing .expected)) (ltb (s .entry .standing .expected) n) (applyTo (s .orders) (changeOf e)) (dealOf e)
+meeting-keeps-orders : (s : Symbol) (a : Act Effect) → UnlessDone (meeting s a .answer) (s .orders) (meeting s a .symbol .orders)
+unfolding meeting
+meeting-keeps-orders s (clearing index next) = λ n. absurd (n refl)
+meeting-keeps-orders s (numbered index n e) = ruled-keeps-orders s (s .entry .standing .stale) (ltb n (s .entry .standing .expected)) (ltb (s .entry .standing .expected) n) (applyTo (s .orders) (changeOf e)) (dealOf e)
 
 -- of the next view, of all symbols
 abbrev NoneChanges : View → Next Symbol → Type 0
@@ -120,7 +127,7 @@ NoneChanges v x = x .answer ≢ 0 → (i : ℕ) → liveIn i (x .view) ≡ liveI
 module _ (v : View) (a : Act Effect) where
   own-same : (x : Option Symbol) → symbolIn (indexOf a) v ≡ x → actAt v (placeOf entryOf (indexOf a) v) x a .answer ≢ 0 → liveIn (indexOf a) (actOn v a .view) ≡ liveIn (indexOf a) v
   own-same none e n = ap (liveIn (indexOf a)) (unregistered-stays v a e)
-  own-same (some s) e n = ap liveOf (own-symbol v a s e) ∙ meets-keeps-orders s a n ∙ sym (ap liveOf e)
+  own-same (some s) e n = ap liveOf (own-symbol v a s e) ∙ meeting-keeps-orders s a n ∙ sym (ap liveOf e)
 
   act-keeps : NoneChanges v (actOn v a)
   unfolding actOn
@@ -248,42 +255,55 @@ module _ {b : Book} (p : Reached b) where
       let number = m .obeys (reached-wf p) .answer in
       record { one-of = rw number (register-answers entryOf started (view b) index name scale); by-rule = number }
 
-  numbers : Numbers b
+  wire-numbers : WireNumbers
+  wire-numbers = record { reaching = reach-numbers; reading = read-numbers; writing = write-numbers }
+
+  book-numbers : BookNumbers b
   unfolding among
-  numbers = record {
-    reaching = reach-numbers;
-    reading = read-numbers;
-    writing = write-numbers;
+  book-numbers = record {
     registering = registering-number;
     applying = λ {s = s} {at = at} m. record { one-of = rw (answered p m) (move-numbers (view b) s at); by-rule = answered p m };
     running = λ {s = s} {at = at} m. record { one-of = rw (m .answer) (reach-refused (OneOf (1 ∷ 2 ∷ [])) refl refl (drop (walkOf s at .at) s) (walkOf s at .answer) (stops-there s at)); by-rule = m .answer };
     quoting = quote-answers (view b);
     summing = volume-answers (view b);
-    telling = λ index t. rw (told-is p index t) (told-answers (view b) index);
+    telling = λ index t. rw t (told-answers (view b) index);
   }
 
-  refusals : Refusals b
-  unfolding toldOf runOf
-  refusals = record {
+  buffers : Buffers
+  buffers = record {
     reading = λ s n e. read-refused (λ (k : ℕ). Unit {0}) tt tt tt s tt n e .nothing;
     writing = λ m plain out n e. (ap (λ (w : Write). w .out) (write-refused m plain out (λ (k : ℕ). Unit {0}) tt tt n e .untouched), ap countOf e);
     beyond = write-fills;
-    registering = λ index name scale m n. m .kept (refused-registering _ (registering-number index name scale m .one-of) n);
-    unchanged = λ m. m .kept;
+  }
+
+  refusals : Refusals b
+  refusals = record {
+    unchanged = λ {r = r} m h. m .kept (among-more (r .answer) (1 ∷ 2 ∷ 3 ∷ 4 ∷ 5 ∷ 6 ∷ 8 ∷ []) (11 ∷ 12 ∷ 13 ∷ []) h);
     made-stale = λ m. leaves-stale p m;
     no-order-changes = λ {s = s} {at = at} m n index. ap (liveIn index) (m .obeys (reached-wf p) .next-view) ∙ move-keeps (view b) s at (λ z. n (answered p m ∙ z)) index;
+  }
+
+  states : States b
+  unfolding runOf
+  states = record {
+    registering = λ index name scale m n. m .kept (refused-registering _ (registering-number index name scale m .one-of) n);
     running = λ m. m .obeys (reached-wf p) .next-view;
     unmoved = λ m. m .kept;
+  }
+
+  questions : Questions b
+  unfolding toldOf
+  questions = record {
     quoting = quote-refused (view b);
     summing = volume-refused (view b);
-    telling = λ index t n. told-is p index t ∙ told-refused (view b) index (λ z. n (ap (λ (x : Listing). x .answer) (told-is p index t) ∙ z));
+    telling = λ index t n. t ∙ told-refused (view b) index (λ z. n (ap (λ (x : Listing). x .answer) t ∙ z));
   }
 
   positions : Positions b
-  positions = record {
-    short = λ m. short p m;
-    small = λ m. small p m;
-    there = λ m. there p m;
+  positions = record { short = λ m. short p m; small = λ m. small p m; there = λ m. there p m }
+
+  moving : Moving b
+  moving = record {
     one-stays = λ m. one-stays p m;
     others-move = λ m. others-move p m;
     running = λ {s = s} {from = from} {r = r} m. position-is-sum b s from r m;
@@ -291,4 +311,14 @@ module _ {b : Book} (p : Reached b) where
   }
 
   pub demand-1-holds : Demand1 b
-  demand-1-holds = record { numbers = numbers; refusals = refusals; positions = positions; same = alike b b (reached-wf p) (reached-wf p) refl }
+  demand-1-holds = record {
+    wire-numbers = wire-numbers;
+    book-numbers = book-numbers;
+    buffers = buffers;
+    refusals = refusals;
+    states = states;
+    questions = questions;
+    positions = positions;
+    moving = moving;
+    same = alike b b (reached-wf p) (reached-wf p) refl;
+  }

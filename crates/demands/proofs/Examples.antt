@@ -20,7 +20,7 @@ use Rattle.orders.specs.Rules.{applyTo}
 use Rattle.record.specs.Rules.{dealTo}
 use Rattle.book.specs.State.{Symbol, View, view, Fresh}
 use Rattle.book.specs.Registering.{registerOf}
-use Rattle.book.specs.Step.{enacted, meets, actOn, meant, stepOf}
+use Rattle.book.specs.Step.{enacted, meeting, actOn, meant, stepOf}
 use Rattle.orders.specs.Levels.{bestStep, sharesAt, levelOf}
 use Rattle.book.specs.Quote.{quoteOf}
 use Rattle.book.specs.Walk.{stepsOf}
@@ -69,7 +69,7 @@ record AllFair : Type 0 where
   pub along : quotesAlong withLosses ≡ alongLosses
 
 all-fair : AllFair
-unfolding Complete Applied ClearsDelivered sent quotesAlong delivered quoteOf levelOf bestStep sharesAt fold sumBy value littleEndian shapeOf faultBy faultOf reachBy reachOf readBy readBody readSized readShape readTyped readReached readOf firstWhere insert remove look placeOf foundIn vacancyOf applyTo dealTo nameBad registering.registered ruled enacted meets actOn meant stepOf stepsOf
+unfolding Complete Applied ClearsDelivered sent quotesAlong delivered quoteOf levelOf bestStep sharesAt fold sumBy value littleEndian shapeOf faultBy faultOf reachBy reachOf readBy readBody readSized readShape readTyped readReached readOf firstWhere insert remove look placeOf foundIn vacancyOf applyTo dealTo nameBad registering.registered ruled enacted meeting actOn meant stepOf stepsOf
 all-fair = record {
   one-add = record { complete = (tt, refl); applied = (tt, refl); clears = tt };
   with-losses = record {
@@ -120,8 +120,8 @@ pub given-in-either-order : {b c : Book} → Began b → Began c → view b ≡ 
 given-in-either-order = met viewABCThenXYZ viewXYZThenABC withLosses (all-fair .to-two) either-order
 
 -- Once the last number is applied every further numbered message answers 6, so that a feed that is given goes on with a clear, and nothing can be lost before it.
-pub after-the-last : (s : Symbol) (i n : ℕ) (e : Effect) → s .entry .standing .stale ≡ false → s .entry .standing .expected ≡ last + 1 → n ≤ last → meets s (numbered i n e) .answer ≡ 6
-unfolding meets ruled enacted
+pub after-the-last : (s : Symbol) (i n : ℕ) (e : Effect) → s .entry .standing .stale ≡ false → s .entry .standing .expected ≡ last + 1 → n ≤ last → meeting s (numbered i n e) .answer ≡ 6
+unfolding meeting ruled enacted
 after-the-last s i n e fresh turn h = rw (fresh, lt-ltb n (s .entry .standing .expected) (omega arith))
 
 -- ---- such a state there is

@@ -3,11 +3,11 @@ use mathlib.Core.Bool.{Bool, true, false}
 use mathlib.Core.Option.{Option, none, some}
 use mathlib.Core.Path.{_≡_, refl, ap}
 use Prim.Native.Nat.{ℕ}
-use Rattle.feed.specs.Reader.{Ruling, unchanged, made-stale, applied, replied, Act, clear, numbered, indexOf, Reader, answerOf, afterOf}
+use Rattle.feed.specs.Reader.{Ruling, unchanged, made-stale, applied, replied, Act, clearing, numbered, indexOf, Reader, answerOf, afterOf}
 use Rattle.feed.specs.Reader as feed
 use Rattle.symbols.specs.State.{placeOf}
 use Rattle.book.specs.State.{Symbol, View, entryOf, symbolIn}
-use Rattle.book.specs.Step.{dealOf, enacted, meets, actAt, actOn}
+use Rattle.book.specs.Step.{dealOf, enacted, meeting, actAt, actOn}
 use Rattle.book.specs.Quote.{quoted, quoteOf}
 use Rattle.book.proofs.Isolation.{unregistered-stays, own-symbol, own-symbol-only}
 use Rattle.demands.specs.Reader.{pillar, Orders, Effect, keptOf, keptIf, keptIn, asQuote}
@@ -25,15 +25,15 @@ enacted-as-feed s d (unchanged a) = refl
 enacted-as-feed s d (made-stale a) = refl
 enacted-as-feed s d (applied os) = refl
 
-meets-answers : (s : Symbol) (m : Act Effect) → meets s m .answer ≡ feed.meets pillar (keptOf s) m .answer
-unfolding meets feed.meets
-meets-answers s (clear index next) = refl
-meets-answers s (numbered index n e) = enacted-answers s (dealOf e) _
+meeting-answers : (s : Symbol) (m : Act Effect) → meeting s m .answer ≡ feed.meets pillar (keptOf s) m .answer
+unfolding meeting feed.meets
+meeting-answers s (clearing index next) = refl
+meeting-answers s (numbered index n e) = enacted-answers s (dealOf e) _
 
-meets-as-feed : (s : Symbol) (m : Act Effect) → keptOf (meets s m .symbol) ≡ feed.meets pillar (keptOf s) m .after
-unfolding meets feed.meets
-meets-as-feed s (clear index next) = refl
-meets-as-feed s (numbered index n e) = enacted-as-feed s (dealOf e) _
+meeting-as-feed : (s : Symbol) (m : Act Effect) → keptOf (meeting s m .symbol) ≡ feed.meets pillar (keptOf s) m .after
+unfolding meeting feed.meets
+meeting-as-feed s (clearing index next) = refl
+meeting-as-feed s (numbered index n e) = enacted-as-feed s (dealOf e) _
 
 -- ---- the eight symbols: feed's three laws
 module _ (v : View) (m : Act Effect) where
@@ -43,7 +43,7 @@ module _ (v : View) (m : Act Effect) where
     where
       go : (x : Option Symbol) → actAt v (placeOf entryOf (indexOf m) v) x m .answer ≡ answerOf pillar (keptIf x) m
       go none = refl
-      go (some s) = meets-answers s m
+      go (some s) = meeting-answers s m
 
   pub own : keptIn (actOn v m .view) (indexOf m) ≡ afterOf pillar (keptIn v (indexOf m)) m
   unfolding keptIn afterOf
@@ -51,7 +51,7 @@ module _ (v : View) (m : Act Effect) where
     where
       go : (x : Option Symbol) → symbolIn (indexOf m) v ≡ x → keptIf (symbolIn (indexOf m) (actOn v m .view)) ≡ afterOf pillar (keptIf (symbolIn (indexOf m) v)) m
       go none e = rw (unregistered-stays v m e, e)
-      go (some s) e = rw (own-symbol v m s e, e) (ap some (meets-as-feed s m))
+      go (some s) e = rw (own-symbol v m s e, e) (ap some (meeting-as-feed s m))
 
   pub other : (i : ℕ) → (i ≡ indexOf m → ⊥) → keptIn (actOn v m .view) i ≡ keptIn v i
   unfolding keptIn
@@ -69,14 +69,14 @@ reader = record {
 }
 
 -- ---- a quote of the book is feed's quote of what is kept
-pub quotes-kept : (v : View) (index : ℕ) → quoteOf index v ≡ asQuote (feed.quoteOf pillar (keptIn v index))
-unfolding quoteOf keptIn asQuote feed.quoteOf
+pub quotes-kept : (v : View) (index : ℕ) → quoteOf index v ≡ asQuote (feed.showingOf pillar (keptIn v index))
+unfolding quoteOf keptIn asQuote feed.showingOf
 quotes-kept v index = go (symbolIn index v)
   where
-    shown : (s : Symbol) (stale : Bool) → s .entry .standing .stale ≡ stale → quoted (some s) ≡ asQuote (feed.quoteOf pillar (some (keptOf s)))
+    shown : (s : Symbol) (stale : Bool) → s .entry .standing .stale ≡ stale → quoted (some s) ≡ asQuote (feed.showingOf pillar (some (keptOf s)))
     shown s true e = rw e
     shown s false e = rw e
 
-    go : (x : Option Symbol) → quoted x ≡ asQuote (feed.quoteOf pillar (keptIf x))
+    go : (x : Option Symbol) → quoted x ≡ asQuote (feed.showingOf pillar (keptIf x))
     go none = refl
     go (some s) = shown s (s .entry .standing .stale) refl

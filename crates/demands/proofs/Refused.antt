@@ -13,7 +13,7 @@ use Rattle.book.specs.Walk.{stepsOf, Moves}
 use Rattle.book.specs.declared.Book.{Book}
 use Rattle.book.specs.declared.walk.Moved.{Moved}
 use Rattle.book.proofs.Refusals.{refused-view}
-use Rattle.demands.specs.Demand3.{Counted, none, counts, refused}
+use Rattle.demands.specs.Demand3.{Counted, no-more, counts, acts-as-lost}
 use Rattle.book.proofs.Walking.{steps-join}
 
 one-to-five : (a : ℕ) → 1 ≤ a → a ≤ 5 → unchanging a ≡ true
@@ -42,10 +42,10 @@ refused-acts-as-lost v ms ns m least most =
 -- so of a stream only what counts does something; and all may count
 pub counted-steps : {v : View} {ms ns : List (List ℕ)} → Counted v ms ns → stepsOf v ns ≡ stepsOf v ms
 unfolding stepsOf
-counted-steps none = refl
+counted-steps no-more = refl
 counted-steps (counts c) = counted-steps c
-counted-steps (refused {v = v} {ms = ms} {ns = ns} {m = m} least most c) = refused-acts-as-lost v [] ns m least most ∙ counted-steps c
+counted-steps (acts-as-lost {v = v} {ms = ms} {ns = ns} {m = m} least most c) = refused-acts-as-lost v [] ns m least most ∙ counted-steps c
 
 pub all-count : (v : View) (ms : List (List ℕ)) → Counted v ms ms
-all-count v [] = none
+all-count v [] = no-more
 all-count v (m ∷ ms) = counts (all-count (stepOf v (readOf m) .view) ms)

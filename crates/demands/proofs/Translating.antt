@@ -8,7 +8,7 @@ use Rattle.wire.specs.Outcome.{Outcome, done, refused}
 use Rattle.wire.specs.Reading.{msgType, readOf}
 use Rattle.wire.specs.Message.{typeOf}
 use Rattle.wire.specs.declared.Message.{Message}
-use Rattle.feed.specs.Reader.{Act, clear, numbered}
+use Rattle.feed.specs.Reader.{Act, clearing, numbered}
 use Rattle.feed.specs.Feed.{Item, heard, lost, Feed, _▷_, ClearsHeard, Accepted, first, second}
 use Rattle.feed.specs.Feed as feed
 use Rattle.symbols.specs.Registering.{Next}
@@ -51,7 +51,7 @@ step-acts v m a = go (readOf m .outcome)
 
 -- what is numbered in bytes is numbered as an act
 abbrev Numbered : Act Effect → Type 0
-Numbered (clear index next) = ⊥
+Numbered (clearing index next) = ⊥
 Numbered (numbered index number effect) = Unit {0}
 
 meant-numbered : (m : Message) → (typeOf m ≡ 32 → ⊥) → Numbered (meant m)
@@ -134,7 +134,7 @@ module _ (v : View) where
 
   lost-numbered : (g : Feed Effect) (x : Act Effect) → Numbered x → ClearsHeard g → ClearsHeard (g ▷ lost x)
   unfolding ClearsHeard
-  lost-numbered g (clear index next) n c = absurd n
+  lost-numbered g (clearing index next) n c = absurd n
   lost-numbered g (numbered index number effect) n c = c
 
   clears-heard : (f : ByteFeed) → Applied v f → ClearsDelivered f → ClearsHeard (feedOf f)

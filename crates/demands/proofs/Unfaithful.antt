@@ -25,13 +25,13 @@ use Rattle.demands.specs.Reader.{pillar, Registered}
 use Rattle.demands.specs.ByteFeed.{sent, delivered, feedOf}
 use Rattle.demands.specs.Demand3.{Demand3, quoteIn}
 use Rattle.demands.specs.Examples.{HasABC, viewABC, oneAdd}
-use Rattle.demands.specs.Messages.{index, shows, none, _at_}
+use Rattle.demands.specs.Messages.{index, shows, no-level, _at_}
 use Rattle.demands.proofs.Examples.{has-view, given-one-add}
 
 -- by computation: the book of the feed, and what is quoted before it
 record Computed : Type 0 where
-  pub book : quotedIf false (bookOf pillar index (feedOf oneAdd)) ≡ shows (200 at 1234500) none
-  pub before : quoteOf index viewABC ≡ shows none none
+  pub book : quotedIf false (bookOf pillar index (feedOf oneAdd)) ≡ shows (200 at 1234500) no-level
+  pub before : quoteOf index viewABC ≡ shows no-level no-level
   pub registered : Registered index viewABC
   pub none-lost : NoneLost index (feedOf oneAdd)
 
@@ -41,7 +41,7 @@ computed = record { book = refl; before = refl; registered = tt; none-lost = rec
 
 module _ (Takes : Book → List (List ℕ) → Book → Type 0) {b c : Book} (demand : Demand3 Takes b c) (p : HasABC b) (q : HasABC c) where
   -- whatever way a reader takes messages, one that meets the demand shows the add
-  pub shows-an-add : {first second : Book} → Takes b (sent oneAdd) first → Takes c (delivered oneAdd) second → quoteIn second index ≡ shows (200 at 1234500) none
+  pub shows-an-add : {first second : Book} → Takes b (sent oneAdd) first → Takes c (delivered oneAdd) second → quoteIn second index ≡ shows (200 at 1234500) no-level
   shows-an-add all rest =
       demand oneAdd _ _ (record { given = given-one-add p q; all = all; rest = rest }) .quotes-the-book index (rw (has-view p) (computed .registered)) (computed .none-lost)
       ∙ computed .book
@@ -53,7 +53,7 @@ module _ (Takes : Book → List (List ℕ) → Book → Type 0) {b c : Book} (de
 -- and two idle readers that agree are none either
 pub no-idle-readers : {b c : Book} → HasABC b → HasABC c → Demand3 (λ s ms r. r ≡ s) b c → ⊥
 no-idle-readers {c = c} p q demand =
-    let shown : shows none none ≡ shows (200 at 1234500) none = sym (ap (quoteOf index) (has-view q) ∙ computed .before) ∙ shows-an-add (λ s ms r. r ≡ s) demand p q refl refl in
-    let bid : _≡_ {A = Level} none (200 at 1234500) = ap (λ (x : Quote). x .bid) shown in
+    let shown : shows no-level no-level ≡ shows (200 at 1234500) no-level = sym (ap (quoteOf index) (has-view q) ∙ computed .before) ∙ shows-an-add (λ s ms r. r ≡ s) demand p q refl refl in
+    let bid : _≡_ {A = Level} no-level (200 at 1234500) = ap (λ (x : Quote). x .bid) shown in
     let z : _≡_ {A = ℕ} 0 1 = cc in
     omega arith

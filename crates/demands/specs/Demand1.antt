@@ -15,7 +15,7 @@ use Rattle.places.specs.Places.{among, sumBy}
 use Rattle.symbols.specs.State.{nameBytes}
 use Rattle.symbols.specs.declared.registering.Listing.{Listing}
 use Rattle.book.specs.State.{view, liveIn}
-use Rattle.book.specs.Promises.{unchanging, staling, BecomesStale, Steps}
+use Rattle.book.specs.Promises.{BecomesStale, Steps}
 use Rattle.book.specs.Registering.{registerOf, toldIn}
 use Rattle.book.specs.Quote.{noQuote, volumeOf}
 use Rattle.book.specs.Step.{meant}
@@ -35,12 +35,14 @@ pub record Answers (numbers : List ℕ) (rule answer : ℕ) : Type 0 where
   pub one-of : OneOf numbers answer
   pub by-rule : answer ≡ rule
 
-pub record Numbers (b : Book) : Type 0 where
-  -- `wire`: how far a message reaches, reading one, and writing one, whose type is always known
+-- `wire`: how far a message reaches, reading one, and writing one, whose type is always known
+pub record WireNumbers : Type 0 where
   pub reaching : (s : List ℕ) → OneOf (0 ∷ 1 ∷ 2 ∷ []) (numberOf (reachOf s))
   pub reading : (s : List ℕ) → OneOf (0 ∷ 1 ∷ 2 ∷ 3 ∷ 4 ∷ []) (numberOf (readOf s .outcome))
   pub writing : (m : Message) (plain out : List ℕ) → OneOf (0 ∷ 4 ∷ 15 ∷ []) (numberOf (writeOf m plain out .outcome))
-  -- `book`: registering, a message, a run, and the questions
+
+-- `book`: registering, a message, a run, and the questions
+pub record BookNumbers (b : Book) : Type 0 where
   pub registering : {r : Done} (index : ℕ) (name : List ℕ) (scale : ℕ) → Steps b (registerOf (view b) index name scale) r → Answers (0 ∷ 11 ∷ 12 ∷ 13 ∷ []) (registerOf (view b) index name scale .answer) (r .answer)
   pub applying : {s : List ℕ} {at : ℕ} {r : Moved} → Moves b s at r → Answers (0 ∷ 1 ∷ 2 ∷ 3 ∷ 4 ∷ 5 ∷ 6 ∷ 7 ∷ 8 ∷ 9 ∷ 10 ∷ []) (moveOf (view b) s at .answer) (r .answer)
   pub running : {s : List ℕ} {at : ℕ} {r : Ran} → Runs b s at r → Answers (1 ∷ 2 ∷ []) (walkOf s at .answer) (r .answer)
@@ -49,6 +51,15 @@ pub record Numbers (b : Book) : Type 0 where
   pub telling : {r : Listing} (index : ℕ) → r ≡ toldIn index (view b) → OneOf (0 ∷ 5 ∷ []) (r .answer)
 
 -- ---- what a refusal leaves
+-- the output: a refused read and a refused write
+pub record Buffers : Type 0 where
+  -- no message is handed back, and zeros for its byte array
+  pub reading : (s : List ℕ) (number : ℕ) → readOf s .outcome ≡ refused number → readOf s ≡ noMessage number
+  -- the buffer is as it was, and the count 0
+  pub writing : (m : Message) (plain out : List ℕ) (number : ℕ) → writeOf m plain out .outcome ≡ refused number → (writeOf m plain out .out ≡ out) × (countOf (writeOf m plain out .outcome) ≡ 0)
+  -- refused or done, no byte beyond the count changes
+  pub beyond : (m : Message) (plain out : List ℕ) → length plain ≡ plainRoom → Fills out (writeOf m plain out)
+
 -- the message at the position was read; its symbol becomes stale and loses its mark, and nothing else changes
 pub record LeavesStale (b : Book) (s : List ℕ) (at : ℕ) (r : Moved) : Type 0 where
   pub bytes : List ℕ
@@ -57,28 +68,35 @@ pub record LeavesStale (b : Book) (s : List ℕ) (at : ℕ) (r : Moved) : Type 0
   pub read : readOf bytes .outcome ≡ done message
   pub stale : BecomesStale (view b) (indexOf (meant message)) (view (r .book))
 
+-- the book and the trade record, by the number that a message is refused with
+pub record Refusals (b : Book) : Type 0 where
+  -- 1 to 6 and 8: the state is the one that came in
+  pub unchanged : {s : List ℕ} {at : ℕ} {r : Moved} → Moves b s at r → OneOf (1 ∷ 2 ∷ 3 ∷ 4 ∷ 5 ∷ 6 ∷ 8 ∷ []) (r .answer) → r .book ≡ b
+  -- 7, 9 and 10: one symbol is stale, without its mark, and the rest is as it was
+  pub made-stale : {s : List ℕ} {at : ℕ} {r : Moved} → Moves b s at r → OneOf (7 ∷ 9 ∷ 10 ∷ []) (r .answer) → LeavesStale b s at r
+  -- so that none changes an order
+  pub no-order-changes : {s : List ℕ} {at : ℕ} {r : Moved} → Moves b s at r → r .answer ≢ 0 → (index : ℕ) → liveIn index (view (r .book)) ≡ liveIn index (view b)
+
+-- the same of a registering and of a run
+pub record States (b : Book) : Type 0 where
+  -- a refused registering hands back the state that came in
+  pub registering : {r : Done} (index : ℕ) (name : List ℕ) (scale : ℕ) → Steps b (registerOf (view b) index name scale) r → r .answer ≢ 0 → r .book ≡ b
+  -- what stops a run changes nothing: its state is what the messages passed make, each as `apply` does,
+  pub running : {s : List ℕ} {from : ℕ} {r : Ran} → Runs b s from r → view (r .book) ≡ stepsOf (view b) (walkOf s from .messages)
+  -- and where none is passed, the one that came in
+  pub unmoved : {s : List ℕ} {from : ℕ} {r : Ran} → Runs b s from r → r .at ≡ from → r .book ≡ b
+
 -- nothing was told: no name, and zeros
 abbrev pub noListing : Listing
 noListing = record { answer = 5; name = replicate nameBytes 0; len = 0; scale = 0 }
 
-pub record Refusals (b : Book) : Type 0 where
-  -- a refused read hands back no message, and zeros for its byte array
-  pub reading : (s : List ℕ) (number : ℕ) → readOf s .outcome ≡ refused number → readOf s ≡ noMessage number
-  -- a refused write leaves the buffer and counts no byte; and no write changes a byte beyond its count
-  pub writing : (m : Message) (plain out : List ℕ) (number : ℕ) → writeOf m plain out .outcome ≡ refused number → (writeOf m plain out .out ≡ out) × (countOf (writeOf m plain out .outcome) ≡ 0)
-  pub beyond : (m : Message) (plain out : List ℕ) → length plain ≡ plainRoom → Fills out (writeOf m plain out)
-  -- a refused registering hands back the state that came in
-  pub registering : {r : Done} (index : ℕ) (name : List ℕ) (scale : ℕ) → Steps b (registerOf (view b) index name scale) r → r .answer ≢ 0 → r .book ≡ b
-  -- so do 1 to 6 and 8 of a message; 7, 9 and 10 make its symbol stale; and no refusal changes an order
-  pub unchanged : {s : List ℕ} {at : ℕ} {r : Moved} → Moves b s at r → unchanging (r .answer) ≡ true → r .book ≡ b
-  pub made-stale : {s : List ℕ} {at : ℕ} {r : Moved} → Moves b s at r → staling (r .answer) ≡ true → LeavesStale b s at r
-  pub no-order-changes : {s : List ℕ} {at : ℕ} {r : Moved} → Moves b s at r → r .answer ≢ 0 → (index : ℕ) → liveIn index (view (r .book)) ≡ liveIn index (view b)
-  -- the stop of a run changes nothing: its state is what the messages passed make, each as above; with none passed, the one that came in
-  pub running : {s : List ℕ} {from : ℕ} {r : Ran} → Runs b s from r → view (r .book) ≡ stepsOf (view b) (walkOf s from .messages)
-  pub unmoved : {s : List ℕ} {from : ℕ} {r : Ran} → Runs b s from r → r .at ≡ from → r .book ≡ b
-  -- a refused quote shows none on both sides, a refused volume is 0 and not whole, and of a symbol that is not registered nothing is told
+-- the questions, which hand back no state
+pub record Questions (b : Book) : Type 0 where
+  -- a refused quote shows none on both sides
   pub quoting : (index : ℕ) → quoteIn b index .answer ≢ 0 → quoteIn b index ≡ noQuote (quoteIn b index .answer)
+  -- a refused volume is 0 and not whole
   pub summing : (index : ℕ) → volumeOf index (view b) .answer ≢ 0 → volumeOf index (view b) ≡ record { answer = 5; shares = 0; whole = false }
+  -- of a symbol that is not registered nothing is told
   pub telling : {r : Listing} (index : ℕ) → r ≡ toldIn index (view b) → r .answer ≢ 0 → r ≡ noListing
 
 -- ---- how far an answer moves: the bytes from the position on decide
@@ -99,23 +117,35 @@ pub record Passes (size at : ℕ) (r : Moved) : Type 0 where
   pub position : r .at ≡ at + size
   pub goes-on : r .stops ≡ false
 
+-- by the bytes: one of the three is met at every position
 pub record Positions (b : Book) : Type 0 where
-  -- too few bytes: 1, and Msg Size below 4: 2, neither of which moves
+  -- too few bytes: 1, and it doesn't move
   pub short : {s : List ℕ} {at : ℕ} {r : Moved} → Moves b s at r → TooFew (drop at s) → Stays 1 at r
+  -- Msg Size below 4: 2, and it doesn't move
   pub small : {s : List ℕ} {at : ℕ} {r : Moved} → Moves b s at r → leastSize ≤ length (drop at s) → msgSize (drop at s) < leastSize → Stays 2 at r
-  -- a message that is all there moves by its Msg Size, whatever is answered
+  -- a message that is all there: it moves by the Msg Size, whatever is answered
   pub there : {s : List ℕ} {at : ℕ} {r : Moved} → Moves b s at r → leastSize ≤ msgSize (drop at s) → msgSize (drop at s) ≤ length (drop at s) → Passes (msgSize (drop at s)) at r
-  -- so 1 never moves, and every other answer but a 2 with a Msg Size below 4 has moved by the Msg Size
+
+-- the same by the answer, and of a run
+pub record Moving (b : Book) : Type 0 where
+  -- 1 never moves
   pub one-stays : {s : List ℕ} {at : ℕ} {r : Moved} → Moves b s at r → r .answer ≡ 1 → Stays 1 at r
+  -- every other answer but a 2 with a Msg Size below 4 has moved by the Msg Size
   pub others-move : {s : List ℕ} {at : ℕ} {r : Moved} → Moves b s at r → r .answer ≢ 1 → (r .answer ≡ 2 → leastSize ≤ msgSize (drop at s)) → Passes (msgSize (drop at s)) at r
-  -- a run has moved by the Msg Sizes passed, and the bytes there are why it stopped
+  -- a run has moved by the Msg Sizes passed,
   pub running : {s : List ℕ} {from : ℕ} {r : Ran} → Runs b s from r → r .at ≡ from + sumBy msgSize (walkOf s from .messages)
+  -- and the bytes there are why it stopped
   pub stopped : {s : List ℕ} {from : ℕ} {r : Ran} → Runs b s from r → reachOf (drop (r .at) s) ≡ refused (r .answer)
 
 -- DEMAND 1, of every state that the calls can be given
 pub record Demand1 (b : Book) : Type 0 where
-  pub numbers : Numbers b
+  pub wire-numbers : WireNumbers
+  pub book-numbers : BookNumbers b
+  pub buffers : Buffers
   pub refusals : Refusals b
+  pub states : States b
+  pub questions : Questions b
   pub positions : Positions b
-  -- and it is the same every time: called twice in this state, a call answers, moves and leaves alike
+  pub moving : Moving b
+  -- it is the same every time: called twice in this state, a call answers, moves and leaves alike
   pub same : Alike b b

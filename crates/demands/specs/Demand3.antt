@@ -8,7 +8,7 @@ use mathlib.Core.Path.{_≡_}
 use lib.ListN.{take, drop}
 use Rattle.wire.specs.Outcome.{done}
 use Rattle.wire.specs.Reading.{reachOf, readOf}
-use Rattle.feed.specs.Reader.{Act, clear, indexOf}
+use Rattle.feed.specs.Reader.{Act, clearing, indexOf}
 use Rattle.feed.specs.Feed.{Feed, _▷_, heard, phase}
 use Rattle.feed.specs.Book.{bookOf}
 use Rattle.feed.specs.Demand3.{NoneLost, AfterLoss, UntilClear, Since, NotLost, answered}
@@ -40,9 +40,9 @@ pub record StandsAt (s : List ℕ) (at : ℕ) (m : List ℕ) : Type 0 where
 
 -- of the messages ns of a stream those that count are ms: the others are refused with 1 to 5, and act as lost
 pub data Counted : View → List (List ℕ) → List (List ℕ) → Type 0 where
-  none : {v : View} → Counted v [] []
+  no-more : {v : View} → Counted v [] []
   counts : {v : View} {ms ns : List (List ℕ)} {m : List ℕ} → Counted (stepOf v (readOf m) .view) ms ns → Counted v (m ∷ ms) (m ∷ ns)
-  refused : {v : View} {ms ns : List (List ℕ)} {m : List ℕ} → 1 ≤ stepOf v (readOf m) .answer → stepOf v (readOf m) .answer ≤ 5 → Counted v ms ns → Counted v ms (m ∷ ns)
+  acts-as-lost : {v : View} {ms ns : List (List ℕ)} {m : List ℕ} → 1 ≤ stepOf v (readOf m) .answer → stepOf v (readOf m) .answer ≤ 5 → Counted v ms ns → Counted v ms (m ∷ ns)
 
 -- a reader in state b is given these messages, by `apply` and `run` at any positions of any slices, and is then in the last state
 pub data Reads (b : Book) : List (List ℕ) → Book → Type 0 where
@@ -100,7 +100,7 @@ module _ (Takes : Book → List (List ℕ) → Book → Type 0) (b c : Book) whe
     -- once it hears a numbered message of the symbol after that, it refuses, until a clear
     pub refused-until-a-clear : (index : ℕ) → UntilClear index (feedOf f) → quoteIn second index ≡ noQuote 8
     -- from that clear on, whatever was lost before it, until another loss: it again agrees with the first
-    pub from-that-clear-on : (index : ℕ) {next : ℕ} {h : Feed Effect} → Since (NotLost index) (h ▷ heard (clear index next)) (feedOf f) → quoteIn second index ≡ quoteIn first index
+    pub from-that-clear-on : (index : ℕ) {next : ℕ} {h : Feed Effect} → Since (NotLost index) (h ▷ heard (clearing index next)) (feedOf f) → quoteIn second index ≡ quoteIn first index
     -- and what it answers to the message m that it hears next: 0 while it agrees, 7 to the first numbered one after a loss, then 8
     pub answers : {s : List ℕ} {at : ℕ} {m : List ℕ} {r : Moved} → Given b c (hears f m) → StandsAt s at m → Moves second s at r → AnsweredAs f m (r .answer)
 

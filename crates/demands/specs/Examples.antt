@@ -10,7 +10,7 @@ use Rattle.book.specs.declared.Book.{Book}
 use Rattle.book.specs.declared.Done.{Done}
 use Rattle.book.specs.declared.quote.Quote.{Quote}
 use Rattle.demands.specs.ByteFeed.{ByteFeed, begins, hears, loses, delivered}
-use Rattle.demands.specs.Messages.{index, buy, sell, add, delete, execute, clear, shows, none, _at_}
+use Rattle.demands.specs.Messages.{index, buy, sell, add, delete, execute, clear, shows, no-level, _at_}
 
 -- a new state with ABC registered, scale 4
 abbrev pub name : List ℕ
@@ -61,12 +61,12 @@ quotesAlong (loses f m) = quoteOf index (stepsOf viewABC (delivered (loses f m))
 
 abbrev pub alongLosses : List Quote
 alongLosses =
-    shows none (70 at 1235000)
-    ∷ shows none (70 at 1235000)
-    ∷ shows none none
+    shows no-level (70 at 1235000)
+    ∷ shows no-level (70 at 1235000)
+    ∷ shows no-level no-level
     ∷ noQuote 8
-    ∷ shows (200 at 1234500) none
-    ∷ shows (200 at 1234500) none
+    ∷ shows (200 at 1234500) no-level
+    ∷ shows (200 at 1234500) no-level
     ∷ []
 
 -- the last number: applied, after which only a clear goes on; and lost

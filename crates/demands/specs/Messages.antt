@@ -41,8 +41,8 @@ abbrev pub clear : (next : ℕ) → List ℕ
 clear next = fieldBytes ((2, 20) ∷ (2, 32) ∷ (4, 34200) ∷ (4, 125) ∷ (4, index) ∷ (4, next) ∷ [])
 
 -- ---- what is quoted of it: for each side none, or so many shares at a price
-abbrev pub none : Level
-none = Level.Empty
+abbrev pub no-level : Level
+no-level = Level.Empty
 
 infix 20 _at_
 abbrev pub _at_ : ℕ → ℕ → Level

@@ -43,6 +43,6 @@ abbrev pub Registered : ℕ → View → Type 0
 Registered index v = IsSome (symbolIn index v)
 
 -- a quote in feed's words, as the one that the code hands back
-unfoldable pub asQuote : feed.Quote Sides → Quote
+unfoldable pub asQuote : feed.Showing Sides → Quote
 asQuote (feed.refused answer) = noQuote answer
-asQuote (feed.quoted sides) = record { answer = 0; bid = sides .bid; ask = sides .ask }
+asQuote (feed.shown sides) = record { answer = 0; bid = sides .bid; ask = sides .ask }

@@ -6,7 +6,7 @@ use mathlib.Core.Option.{Option, none, some, IsSome}
 use mathlib.Core.Path.{_≡_, refl, sym, _∙_, ap}
 use lib.Dec.{eqb}
 use borrow.Author.Tests.{eqb-true, eqb-false}
-use Rattle.feed.specs.Reader.{Act, indexOf, Rules, Kept, meets, answerOf, afterOf, expecting, quoted, quoteOf, New, unregistered, registered, Reader, Registered, quote}
+use Rattle.feed.specs.Reader.{Act, indexOf, Rules, Kept, meets, answerOf, afterOf, expecting, shown, showingOf, New, unregistered, registered, Reader, Registered, quote}
 use Rattle.feed.specs.Feed.{heard, lost, Feed, start, _▷_, first, Accepted}
 use Rattle.feed.specs.Book.{bookAfter, bookOf, turnAfter, turnOf, Follows, Orderly}
 use Rattle.feed.proofs.Meets.{done-in-turn, done-after, in-turn-done, own-at, says-at}
@@ -50,8 +50,8 @@ module _ (R : Rules) (D : Reader R) (s₀ : D .State) (new : (i : ℕ) → New R
   first-keeps (f ▷ lost m) a i y = step-made R D (first R D s₀ f) m i (turnOf R i f) (bookOf R i f) (eqb i (indexOf m)) refl (first-keeps f (a .0) i y) (a .1)
 
   -- the reader that receives all quotes demand 2's book, at every moment
-  pub first-quotes-the-book : (f : Feed (R .Effect)) → Accepted R D s₀ f → (i : ℕ) → Registered R D s₀ i → quote R D (first R D s₀ f) i ≡ quoted (R .shows (bookOf R i f))
-  unfolding quoteOf
+  pub first-quotes-the-book : (f : Feed (R .Effect)) → Accepted R D s₀ f → (i : ℕ) → Registered R D s₀ i → quote R D (first R D s₀ f) i ≡ shown (R .shows (bookOf R i f))
+  unfolding showingOf
   first-quotes-the-book f a i y = rw (first-keeps f a i y)
 
   -- it registers nothing on the way

@@ -8,7 +8,7 @@ use mathlib.Core.Option.{Option, none, some, IsSome}
 use mathlib.Core.Path.{_≡_, refl, sym, _∙_}
 use lib.Dec.{eqb}
 use borrow.Author.Tests.{eqb-true, eqb-false}
-use Rattle.feed.specs.Reader.{Act, clear, numbered, indexOf, Rules, Kept, meets, answerOf, afterOf, quoteOf, New, unregistered, registered, Reader}
+use Rattle.feed.specs.Reader.{Act, clearing, numbered, indexOf, Rules, Kept, meets, answerOf, afterOf, showingOf, New, unregistered, registered, Reader}
 use Rattle.feed.specs.Feed.{heard, lost, Feed, start, _▷_, Phase, agrees, behind, refuses, afterHearing, afterLosing, moves, phase, ClearsHeard, first, second, Accepted, Given}
 use Rattle.feed.specs.Demand3.{answered, Quotes}
 use Rattle.feed.proofs.Meets.{done, above, still-stale, own-at, says-at}
@@ -24,10 +24,10 @@ module _ (R : Rules) {was : Feed (R .Effect) → Option (Kept (R .Orders))} wher
   heard-holds : {p : Phase (R .Effect)} {a b : Option (Kept (R .Orders))} (m : Act (R .Effect)) → Holds was p a b → answerOf R a m ≡ 0 →
       (answerOf R b m ≡ answered p m) × Holds was (afterHearing p m) (afterOf R a m) (afterOf R b m)
   unfolding afterHearing answered answerOf afterOf meets
-  heard-holds (clear index next) same h = (h, same)
-  heard-holds (clear index next) (older w live lower) h = (refl, same)
-  heard-holds (clear index next) (gone {a = none} st) h = absurd (omega arith)
-  heard-holds (clear index next) (gone {a = some k} st) h = (refl, same)
+  heard-holds (clearing index next) same h = (h, same)
+  heard-holds (clearing index next) (older w live lower) h = (refl, same)
+  heard-holds (clearing index next) (gone {a = none} st) h = absurd (omega arith)
+  heard-holds (clearing index next) (gone {a = some k} st) h = (refl, same)
   heard-holds (numbered index number effect) same h = (h, same)
   heard-holds (numbered index number effect) (older {k = k} {l = l} w live lower) h =
       let t = above R l index number effect live (omega (arith, done R k index number effect h .in-turn)) in
@@ -72,12 +72,12 @@ module _ (R : Rules) (D : Reader R) (s₀ t₀ : D .State) (i : ℕ) where
   unfolding phase moves first second Accepted ClearsHeard
   held start e a c = rw e same
   held (f ▷ heard m) e a c = heard-held (first R D s₀ f) (second R D t₀ f) m (eqb i (indexOf m)) refl (held f e (a .0) c) (a .1)
-  held (f ▷ lost (clear index next)) e a c = absurd c
+  held (f ▷ lost (clearing index next)) e a c = absurd c
   held (f ▷ lost (numbered index number effect)) e a c = lost-held f (second R D t₀ f) index number effect (eqb i index) refl (held f e (a .0) c) (a .1)
 
   quotes-held : {p : Phase (R .Effect)} {a b : Option (Kept (R .Orders))} (f : Feed (R .Effect)) → Holds (λ g. D .kept (first R D s₀ g) i) p a b →
       D .kept (first R D s₀ f) i ≡ a → D .kept (second R D t₀ f) i ≡ b → Quotes R D s₀ t₀ i f p
-  unfolding Quotes quoteOf
+  unfolding Quotes showingOf
   quotes-held f same x y = rw (x, y)
   quotes-held f (older w live lower) x y = rw (w, y)
   quotes-held f (gone st) x y = rw (y, st)

@@ -4,7 +4,7 @@ use mathlib.Core.Bool.{Bool, true, false, cond}
 use mathlib.Core.Path.{_≡_, refl, _∙_, ap}
 use lib.Dec.{eqb}
 use borrow.Author.Tests.{eqb-true, eqb-false, eq-eqb}
-use Rattle.feed.specs.Reader.{Act, clear, numbered, indexOf}
+use Rattle.feed.specs.Reader.{Act, clearing, numbered, indexOf}
 use Rattle.feed.specs.Feed.{Item, heard, lost, Feed, start, _▷_, Phase, agrees, behind, refuses, afterHearing, afterLosing, moves, phase}
 use Rattle.feed.specs.Demand3.{Since, here, more, CountsFrom, at-start, at-clear, NotLost, NotHeard, NotCleared, NoneLost, AfterLoss, UntilClear, Stands, none-lost, after-loss, until-clear}
 
@@ -22,12 +22,12 @@ module _ {E : Type 0} (i : ℕ) where
 
   allowed-stays : (p : Phase E) (f : Feed E) (it : Item E) → Allows p it → moves i p f it ≡ p
   unfolding moves afterHearing afterLosing Allows NotLost NotHeard NotCleared
-  allowed-stays agrees f (heard (clear index next)) x = stays (eqb i index) (λ own. refl)
+  allowed-stays agrees f (heard (clearing index next)) x = stays (eqb i index) (λ own. refl)
   allowed-stays agrees f (heard (numbered index number effect)) x = stays (eqb i index) (λ own. refl)
   allowed-stays agrees f (lost m) x = stays (eqb i (indexOf m)) (λ own. absurd (x (eqb-true i (indexOf m) own)))
   allowed-stays (behind h) f (heard m) x = stays (eqb i (indexOf m)) (λ own. absurd (x (eqb-true i (indexOf m) own)))
   allowed-stays (behind h) f (lost m) x = stays (eqb i (indexOf m)) (λ own. refl)
-  allowed-stays refuses f (heard (clear index next)) x = stays (eqb i index) (λ own. absurd (x (eqb-true i index own)))
+  allowed-stays refuses f (heard (clearing index next)) x = stays (eqb i index) (λ own. absurd (x (eqb-true i index own)))
   allowed-stays refuses f (heard (numbered index number effect)) x = stays (eqb i index) (λ own. refl)
   allowed-stays refuses f (lost m) x = stays (eqb i (indexOf m)) (λ own. refl)
 
@@ -81,7 +81,7 @@ module _ {E : Type 0} (i : ℕ) where
   unfolding Allows NotLost NotHeard NotCleared
   other-heard agrees m ne = tt
   other-heard (behind h) m ne = ne
-  other-heard refuses (clear index next) ne = ne
+  other-heard refuses (clearing index next) ne = ne
   other-heard refuses (numbered index number effect) ne = tt
 
   other-lost : (p : Phase E) (m : Act E) → (i ≡ indexOf m → ⊥) → Allows p (lost m)
@@ -92,7 +92,7 @@ module _ {E : Type 0} (i : ℕ) where
 
   stands-heard : {f : Feed E} {p : Phase E} (m : Act E) → i ≡ indexOf m → Stands i f p → Stands i (f ▷ heard m) (afterHearing p m)
   unfolding afterHearing Allows NotLost NotCleared
-  stands-heard {f = f} (clear index next) e x = rw (← e) (none-lost (record { from = f ▷ heard (clear i next); counts = at-clear; since = here }))
+  stands-heard {f = f} (clearing index next) e x = rw (← e) (none-lost (record { from = f ▷ heard (clearing i next); counts = at-clear; since = here }))
   stands-heard (numbered index number effect) e (none-lost n) = stands-on (heard (numbered index number effect)) (none-lost n) tt
   stands-heard {f = f} (numbered index number effect) e (after-loss {h = h} a) =
       rw (← e) (until-clear (record { before-loss = h; before-next = f; loss = a; number = number; effect = effect; since = here }))

@@ -3,7 +3,7 @@ use Prim.Native.Nat.{ℕ, _+_}
 use mathlib.Core.Bool.{cond}
 use mathlib.Core.Path.{_≡_}
 use lib.Dec.{eqb}
-use Rattle.feed.specs.Reader.{Fit, fits, misfit, no-room, Act, clear, numbered, indexOf, Rules, Reader, Registered}
+use Rattle.feed.specs.Reader.{Fit, fits, misfit, no-room, Act, clearing, numbered, indexOf, Rules, Reader, Registered}
 use Rattle.feed.specs.Feed.{Feed, start, _▷_, heard, lost}
 
 module _ {O : Type 0} where
@@ -21,7 +21,7 @@ module _ {O : Type 0} where
 module _ (R : Rules) where
   -- The orders after a message of the symbol, and after all of a feed
   unfoldable pub bookAfter : R .Orders → Act (R .Effect) → R .Orders
-  bookAfter orders (clear index next) = R .empty
+  bookAfter orders (clearing index next) = R .empty
   bookAfter orders (numbered index number effect) = fitted orders (R .apply orders effect)
 
   unfoldable pub bookOf : ℕ → Feed (R .Effect) → R .Orders
@@ -31,7 +31,7 @@ module _ (R : Rules) where
 
   -- The number in turn after a message of the symbol, and after all of a feed
   unfoldable pub turnAfter : ℕ → Act (R .Effect) → ℕ
-  turnAfter turn (clear index next) = next
+  turnAfter turn (clearing index next) = next
   turnAfter turn (numbered index number effect) = turn + 1
 
   unfoldable pub turnOf : ℕ → Feed (R .Effect) → ℕ
@@ -41,7 +41,7 @@ module _ (R : Rules) where
 
   -- A message in its turn: a clear, or a numbered one that has the number in turn and fits
   unfoldable pub InTurn : ℕ → R .Orders → Act (R .Effect) → Type 0
-  InTurn turn orders (clear index next) = Unit {0}
+  InTurn turn orders (clearing index next) = Unit {0}
   InTurn turn orders (numbered index number effect) = (number ≡ turn) × Fitting (R .apply orders effect)
 
   -- A feed of registered symbols with every message in its turn. A reader accepts these feeds (`orderly-accepted`) and no others (`accepted-orderly`).

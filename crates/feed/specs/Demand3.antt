@@ -2,7 +2,7 @@
 use Prim.Native.Nat.{ℕ}
 use mathlib.Core.Logic.{_≢_}
 use mathlib.Core.Path.{_≡_}
-use Rattle.feed.specs.Reader.{Act, clear, numbered, indexOf, Rules, refused, quoted, Reader, Registered, quote}
+use Rattle.feed.specs.Reader.{Act, clearing, numbered, indexOf, Rules, refused, shown, Reader, Registered, quote}
 use Rattle.feed.specs.Feed.{Item, heard, lost, Feed, start, _▷_, Phase, agrees, behind, refuses, phase, first, second, Given}
 use Rattle.feed.specs.Book.{bookOf}
 
@@ -15,7 +15,7 @@ module _ {E : Type 0} (i : ℕ) where
   -- where counting begins: at the start, or at a clear of the symbol
   pub data CountsFrom : Feed E → Type 0 where
     at-start : CountsFrom start
-    at-clear : {f : Feed E} {next : ℕ} → CountsFrom (f ▷ heard (clear i next))
+    at-clear : {f : Feed E} {next : ℕ} → CountsFrom (f ▷ heard (clearing i next))
 
   -- nothing of the symbol is lost here; other symbols' losses do not matter
   unfoldable pub NotLost : Item E → Type 0
@@ -29,7 +29,7 @@ module _ {E : Type 0} (i : ℕ) where
 
   -- no clear of the symbol is heard here
   unfoldable pub NotCleared : Item E → Type 0
-  NotCleared (heard (clear index next)) = i ≢ index
+  NotCleared (heard (clearing index next)) = i ≢ index
   NotCleared (heard (numbered index number effect)) = Unit {0}
   NotCleared (lost m) = Unit {0}
 
@@ -63,7 +63,7 @@ module _ {E : Type 0} (i : ℕ) where
 
 -- What the second reader answers to a message that it hears, of a symbol in that phase: 0 while it agrees, 7 to the first numbered one after a loss, then 8
 unfoldable pub answered : {E : Type 0} → Phase E → Act E → ℕ
-answered p (clear index next) = 0
+answered p (clearing index next) = 0
 answered agrees (numbered index number effect) = 0
 answered (behind g) (numbered index number effect) = 7
 answered refuses (numbered index number effect) = 8
@@ -87,15 +87,15 @@ module _ (R : Rules) (D : Reader R) (s₀ t₀ : D .State) where
     -- none of the symbol's messages lost: the quote is the first reader's of now
     pub nothing-lost : (i : ℕ) {f : Feed (R .Effect)} → Given R D s₀ t₀ f → NoneLost i f → QuotesAs i f f
     -- and it is that of demand 2's book, so that a reader that refuses all, one that calls every symbol stale and two idle ones that agree do not pass (proofs/Idle)
-    pub quotes-the-book : (i : ℕ) {f : Feed (R .Effect)} → Given R D s₀ t₀ f → Registered R D s₀ i → NoneLost i f → quote R D (second R D t₀ f) i ≡ quoted (R .shows (bookOf R i f))
+    pub quotes-the-book : (i : ℕ) {f : Feed (R .Effect)} → Given R D s₀ t₀ f → Registered R D s₀ i → NoneLost i f → quote R D (second R D t₀ f) i ≡ shown (R .shows (bookOf R i f))
     -- as the first reader's is at every moment
-    pub first-quotes-the-book : (i : ℕ) {f : Feed (R .Effect)} → Given R D s₀ t₀ f → Registered R D s₀ i → quote R D (first R D s₀ f) i ≡ quoted (R .shows (bookOf R i f))
+    pub first-quotes-the-book : (i : ℕ) {f : Feed (R .Effect)} → Given R D s₀ t₀ f → Registered R D s₀ i → quote R D (first R D s₀ f) i ≡ shown (R .shows (bookOf R i f))
     -- after a loss: the quote is the first reader's of the moment just before the first lost message
     pub after-a-loss : (i : ℕ) {h f : Feed (R .Effect)} → Given R D s₀ t₀ f → AfterLoss i h f → QuotesAs i f h
     -- once a numbered message of the symbol is heard after that, and while no clear is: every quote is refused
     pub refused-until-a-clear : (i : ℕ) {f : Feed (R .Effect)} → Given R D s₀ t₀ f → UntilClear i f → Refuses i f
     -- after a clear, whatever was lost before it, and until another loss: the quote is the first reader's again
-    pub from-that-clear-on : (i : ℕ) {next : ℕ} {h f : Feed (R .Effect)} → Given R D s₀ t₀ f → Since (NotLost i) (h ▷ heard (clear i next)) f → QuotesAs i f f
+    pub from-that-clear-on : (i : ℕ) {next : ℕ} {h f : Feed (R .Effect)} → Given R D s₀ t₀ f → Since (NotLost i) (h ▷ heard (clearing i next)) f → QuotesAs i f f
     -- all of it by the phase, which can be computed; and the answer to each message that the second reader hears
     pub by-phase : (i : ℕ) {f : Feed (R .Effect)} → Given R D s₀ t₀ f → Quotes i f (phase i f)
     pub answers : {f : Feed (R .Effect)} {m : Act (R .Effect)} → Given R D s₀ t₀ (f ▷ heard m) → D .answer (second R D t₀ f) m ≡ answered (phase (indexOf m) f) m

@@ -4,7 +4,7 @@ use mathlib.Core.Bool.{cond}
 use mathlib.Core.Logic.{_↔_}
 use mathlib.Core.Path.{_≡_}
 use lib.Dec.{eqb}
-use Rattle.feed.specs.Reader.{Rules, Act, clear, numbered, indexOf, New, Reader, Registered}
+use Rattle.feed.specs.Reader.{Rules, Act, clearing, numbered, indexOf, New, Reader, Registered}
 
 -- A message of the feed: the second reader hears it, or it is lost on the way to it. The first reader receives it either way.
 pub data Item (E : Type 0) : Type 0 where
@@ -27,7 +27,7 @@ pub data Phase (E : Type 0) : Type 0 where
 module _ {E : Type 0} where
   -- a message of the symbol is heard
   unfoldable pub afterHearing : Phase E → Act E → Phase E
-  afterHearing p (clear index next) = agrees
+  afterHearing p (clearing index next) = agrees
   afterHearing agrees (numbered index number effect) = agrees
   afterHearing (behind g) (numbered index number effect) = refuses
   afterHearing refuses (numbered index number effect) = refuses
@@ -51,7 +51,7 @@ module _ {E : Type 0} where
   unfoldable pub ClearsHeard : Feed E → Type 0
   ClearsHeard start = Unit {0}
   ClearsHeard (f ▷ heard m) = ClearsHeard f
-  ClearsHeard (f ▷ lost (clear index next)) = ⊥
+  ClearsHeard (f ▷ lost (clearing index next)) = ⊥
   ClearsHeard (f ▷ lost (numbered index number effect)) = ClearsHeard f
 
 module _ (R : Rules) (D : Reader R) where

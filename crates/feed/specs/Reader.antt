@@ -14,12 +14,12 @@ pub data Fit (O : Type 0) : Type 0 where
 
 -- A message as the book meets it: a symbol clear with the next number, or a numbered one with its effect
 pub data Act (E : Type 0) : Type 0 where
-  clear : (index next : ℕ) → Act E
+  clearing : (index next : ℕ) → Act E
   numbered : (index number : ℕ) → E → Act E
 
 -- the symbol that it is for
 abbrev pub indexOf : {E : Type 0} → Act E → ℕ
-indexOf (clear index next) = index
+indexOf (clearing index next) = index
 indexOf (numbered index number effect) = index
 
 -- What the orders of a symbol are, what an effect does to them, and what a quote shows of them
@@ -70,14 +70,14 @@ module _ {O : Type 0} where
   replied k (applied orders) = record { answer = 0; after = record { expected = k .expected + 1; stale = k .stale; orders = orders } }
 
 -- A quote: refused with its number, or what is shown
-pub data Quote (Q : Type 0) : Type 0 where
-  refused : ℕ → Quote Q
-  quoted : Q → Quote Q
+pub data Showing (Q : Type 0) : Type 0 where
+  refused : ℕ → Showing Q
+  shown : Q → Showing Q
 
 module _ (R : Rules) where
   -- A registered symbol meets a message of its own. A clear is never refused: it leaves no orders, makes the symbol not stale, and gives the number in turn.
   unfoldable pub meets : Kept (R .Orders) → Act (R .Effect) → Reply (R .Orders)
-  meets k (clear index next) = record { answer = 0; after = expecting next (R .empty) }
+  meets k (clearing index next) = record { answer = 0; after = expecting next (R .empty) }
   meets k (numbered index number effect) = replied k (ruled (k .stale) (ltb number (k .expected)) (ltb (k .expected) number) (R .apply (k .orders) effect))
 
   -- the same where the symbol may not be registered: then the answer is 5, and nothing is kept
@@ -90,9 +90,9 @@ module _ (R : Rules) where
   afterOf (some k) m = some (meets k m .after)
 
   -- A quote checks 5, then 8
-  unfoldable pub quoteOf : Option (Kept (R .Orders)) → Quote (R .Shown)
-  quoteOf none = refused 5
-  quoteOf (some k) = cond (k .stale) (refused 8) (quoted (R .shows (k .orders)))
+  unfoldable pub showingOf : Option (Kept (R .Orders)) → Showing (R .Shown)
+  showingOf none = refused 5
+  showingOf (some k) = cond (k .stale) (refused 8) (shown (R .shows (k .orders)))
 
   -- What a new reader keeps of a symbol: registering starts it with no orders, not stale, expecting number 1
   pub data New : Option (Kept (R .Orders)) → Type 0 where
@@ -114,5 +114,5 @@ module _ (R : Rules) where
   Registered D s i = IsSome (D .kept s i)
 
   -- what a reader quotes of a symbol
-  abbrev pub quote : (D : Reader) → D .State → ℕ → Quote (R .Shown)
-  quote D s i = quoteOf (D .kept s i)
+  abbrev pub quote : (D : Reader) → D .State → ℕ → Showing (R .Shown)
+  quote D s i = showingOf (D .kept s i)

@@ -1,15 +1,15 @@
 -- An execution takes its order out and puts it back with less at the same price, so that only the sum at its own price and side falls.
-use mathlib.Core.Bool.{Bool, true, false, cond, Bool·beq, true≢false, false≢true}
+use mathlib.Core.Bool.{Bool, true, false, cond, Bool·beq, false≢true}
 use mathlib.Core.List.{List, List·Memᴰ}
 use mathlib.Core.Logic.{_≢_}
 use mathlib.Core.Option.{Option, none, some}
 use mathlib.Core.Path.{_≡_, refl, sym, subst}
-use Prim.Native.Nat.{ℕ, _+_, _≤_}
+use Prim.Native.Nat.{ℕ, _≤_}
 use native.Mathlib.Omega.{arith}
 use lib.Dec.{ltb, eqb}
 use borrow.Author.Tests.{eq-eqb, eqb-true, ltb-false}
 use Rattle.feed.specs.Reader.{Fit, fits, misfit}
-use Rattle.places.specs.Places.{sumBy, insert, remove, look}
+use Rattle.places.specs.Places.{insert, remove, look}
 use Rattle.places.proofs.Sorted.{sum-insert, look-key, look-there, sum-remove}
 use Rattle.orders.specs.State.{orderNumber}
 use Rattle.orders.specs.Rules.{less, taken, executed, applyTo}

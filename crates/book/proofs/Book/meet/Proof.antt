@@ -1,6 +1,6 @@
 -- The place and the turn pick the clause of the rule; in its turn the message is taken.
 use native.Mathlib.Omega.{arith}
-use Rattle.book.proofs.Acting.{Asked, meets-above, meets-away, awaits, meets-turn}
+use Rattle.book.proofs.Acting.{Asked, meeting-above, meeting-away, awaits, meeting-turn}
 use borrow.Author.Needs.{needs}
 use Rattle.book.proofs.Book.meet.Statement.{statement}
 use Rattle.book.proofs.Book.meet.Tie as tie
@@ -19,16 +19,16 @@ make-stale-requires : tie.Need-make-stale-requires
 make-stale-requires c κs = search needs
 
 returns : tie.Need-returns
-returns c = meets-above _ _ _ (c .before .before .before .before .before .args .effect) _ _ (asked (c .before .before)) _ (c .before .if1 .taken) (c .make-stale .ensures)
+returns c = meeting-above _ _ _ (c .before .before .before .before .before .args .effect) _ _ (asked (c .before .before)) _ (c .before .if1 .taken) (c .make-stale .ensures)
 
 returns-2 : tie.Need-returns-2
-returns-2 c = meets-away _ _ _ (c .before .before .before .before .before .args .effect) _ _ (asked (c .before .before)) (c .before .if1 .left) (c .if2 .taken)
+returns-2 c = meeting-away _ _ _ (c .before .before .before .before .before .args .effect) _ _ (asked (c .before .before)) (c .before .if1 .left) (c .if2 .taken)
 
 take-requires : tie.Need-take-requires
 take-requires c κs = awaits _ _ _ (c .before .before .before .before .before .args .effect) _ _ (asked (c .before .before)) (c .if2 .left) (omega arith)
 
 returns-3 : tie.Need-returns-3
-returns-3 c = meets-turn _ _ _ (c .before .before .before .before .before .before .args .effect) _ _ (asked (c .before .before .before)) (c .before .if2 .left) _ (c .take .ensures)
+returns-3 c = meeting-turn _ _ _ (c .before .before .before .before .before .before .args .effect) _ _ (asked (c .before .before .before)) (c .before .if2 .left) _ (c .take .ensures)
 
 pub meet-spec : {M : Type 1} → statement M
 meet-spec =
