@@ -1,5 +1,5 @@
 -- A question about an index is answered from the symbol at its place, or from none.
-use mathlib.Core.Bool.{false}
+use mathlib.Core.Bool.{Bool, false}
 use mathlib.Core.Option.{Option, Option·map}
 use mathlib.Core.Path.{_≡_, sym, ap, _∙_}
 use Prim.Native.Nat.{ℕ, _<_, _≤_}
@@ -39,9 +39,9 @@ module _ (b : Book) (index k : ℕ) (place : k ≡ placeOf itself index (entries
     unfolding standingOf
     stands = standing ∙ ap standingOf (symbol-at b index k is h .at)
 
-    pub quote-at : quotedIf (s .stale) (ordersAt b k) ≡ quoteOf index (view b)
+    pub quote-at : (t : Bool) → s .stale ≡ t → quotedIf t (ordersAt b k) ≡ quoteOf index (view b)
     unfolding quoteOf
-    quote-at = sym (ap quoted (symbol-at b index k is h .there) ∙ ap (λ (x : Standing). quotedIf (x .stale) (ordersAt b k)) (sym stands))
+    quote-at t e = sym (ap quoted (symbol-at b index k is h .there) ∙ ap (λ (x : Standing). quotedIf (x .stale) (ordersAt b k)) (sym stands) ∙ ap (λ (x : Bool). quotedIf x (ordersAt b k)) e)
 
     pub volume-at : record { answer = 0; shares = sharesOf (tradesAt b k); whole = s .whole } ≡ volumeOf index (view b)
     unfolding volumeOf

@@ -81,7 +81,7 @@ module _ (l : Layout) (s : Sane l) where
   pub ends-rise : (n : ℕ) → l .size ≤ n → Rising 0 (endsOf l) n
   ends-rise n h = omega arith
 
-  pub stored-is-image : (out plain : List ℕ) (type : ℕ) (f : Fields) → l .size ≤ length out → length plain ≡ plainRoom →
+  stored-is-image : (out plain : List ℕ) (type : ℕ) (f : Fields) → l .size ≤ length out → length plain ≡ plainRoom →
       splice (splice (stored 0 (endsOf l) (valuesOf (l .size) type f) out) (l .plain) (l .pad) (take (l .pad - l .plain) plain)) (l .pad) (l .size) (littleEndian (l .size - l .pad) 0)
       ≡ imageOf l type f plain ++ drop (l .size) out
   unfolding imageOf
@@ -91,3 +91,11 @@ module _ (l : Layout) (s : Sane l) where
       let numbers = filled-all out (endsOf l) v (length out) 0 [] out refl (ends-rise (length out) h) (filled-none out) in
       let with-array = filled-next out (bytesOf 0 (endsOf l) v) (stored 0 (endsOf l) v out) d (l .plain) (l .pad) (omega arith) (length-take-le (l .pad - l .plain) plain (omega arith)) numbers in
       filled-next out (bytesOf 0 (endsOf l) v ++ d) (splice (stored 0 (endsOf l) v out) (l .plain) (l .pad) d) (littleEndian (l .size - l .pad) 0) (l .pad) (l .size) (omega arith) (length-littleEndian (l .size - l .pad) 0) with-array .is
+
+  -- the same of three stores, each over what the one before it left
+  pub stored-in-turn : (out plain : List ℕ) (type : ℕ) (f : Fields) → l .size ≤ length out → length plain ≡ plainRoom → (numbers array all : List ℕ)
+      → numbers ≡ stored 0 (endsOf l) (valuesOf (l .size) type f) out
+      → array ≡ splice numbers (l .plain) (l .pad) (take (l .pad - l .plain) plain)
+      → all ≡ splice array (l .pad) (l .size) (littleEndian (l .size - l .pad) 0)
+      → all ≡ imageOf l type f plain ++ drop (l .size) out
+  stored-in-turn out plain type f h k numbers array all p q r = r ∙ ap (λ (x : List ℕ). splice x (l .pad) (l .size) (littleEndian (l .size - l .pad) 0)) (q ∙ ap (λ (x : List ℕ). splice x (l .plain) (l .pad) (take (l .pad - l .plain) plain)) p) ∙ stored-is-image out plain type f h k

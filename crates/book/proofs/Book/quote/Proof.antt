@@ -1,8 +1,5 @@
 -- The levels of the symbol at the place that was found, unless it is stale.
-use mathlib.Core.Bool.{Bool}
-use mathlib.Core.Path.{sym, ap, _∙_}
-use Rattle.book.specs.State.{ordersAt}
-use Rattle.book.specs.Quote.{quotedIf}
+use mathlib.Core.Bool.{true, false}
 use Rattle.book.proofs.Asking.{quote-missing, quote-at}
 use borrow.Author.Needs.{needs}
 use Rattle.book.proofs.Book.quote.Statement.{statement}
@@ -18,10 +15,7 @@ standing-requires : tie.Need-standing-requires
 standing-requires c κs = search needs
 
 returns-2 : tie.Need-returns-2
-returns-2 c =
-    let s = c .before .before .before .before .before .args .self in
-    let k = c .before .before .before .place-of in
-    sym (ap (λ (t : Bool). quotedIf t (ordersAt s (k .result))) (c .if2 .taken)) ∙ quote-at s _ _ (k .ensures) (c .before .before .if1 .left) _ (c .before .standing .ensures)
+returns-2 c = quote-at (c .before .before .before .before .before .args .self) _ _ (c .before .before .before .place-of .ensures) (c .before .before .if1 .left) _ (c .before .standing .ensures) true (c .if2 .taken)
 
 level-requires : tie.Need-level-requires
 level-requires c κs = search needs
@@ -34,7 +28,7 @@ returns-3 c =
     let s = c .before .before .before .before .before .before .before .before .args .self in
     let k = c .before .before .before .before .before .before .place-of in
     rw (c .level2 .ensures, c .before .level .ensures)
-    (sym (ap (λ (t : Bool). quotedIf t (ordersAt s (k .result))) (c .before .before .before .if2 .left)) ∙ quote-at s _ _ (k .ensures) (c .before .before .before .before .before .if1 .left) _ (c .before .before .before .before .standing .ensures))
+    (quote-at s _ _ (k .ensures) (c .before .before .before .before .before .if1 .left) _ (c .before .before .before .before .standing .ensures) false (c .before .before .before .if2 .left))
 
 pub quote-spec : {M : Type 1} → statement M
 quote-spec =

@@ -88,15 +88,15 @@ numbered-requires-12 c κs = search needs
 
 returns : tie.Need-returns
 unfolding meant
-returns c = c .numbered .ensures ∙ sym (ap meant (c .before .before .m .given .1))
+returns c = rw (c .before .before .m .given .1) (c .numbered .ensures)
 
 returns-2 : tie.Need-returns-2
 unfolding meant
-returns-2 c = c .numbered2 .ensures ∙ sym (ap meant (c .before .before .m2 .given .1))
+returns-2 c = rw (c .before .before .m2 .given .1) (c .numbered2 .ensures)
 
 returns-3 : tie.Need-returns-3
 unfolding meant
-returns-3 c = c .numbered3 .ensures ∙ sym (ap meant (c .before .before .m3 .given .1))
+returns-3 c = rw (c .before .before .m3 .given .1) (c .numbered3 .ensures)
 
 returns-4 : tie.Need-returns-4
 unfolding meant
@@ -104,11 +104,11 @@ returns-4 c = c .numbered4 .ensures ∙ (rw (c .before .if-printable .ensures)) 
 
 returns-5 : tie.Need-returns-5
 unfolding meant
-returns-5 c = c .numbered5 .ensures ∙ sym (ap meant (c .before .before .m5 .given .1))
+returns-5 c = rw (c .before .before .m5 .given .1) (c .numbered5 .ensures)
 
 returns-6 : tie.Need-returns-6
 unfolding meant
-returns-6 c = c .numbered6 .ensures ∙ sym (ap meant (c .before .before .m6 .given .1))
+returns-6 c = rw (c .before .before .m6 .given .1) (c .numbered6 .ensures)
 
 returns-7 : tie.Need-returns-7
 unfolding meant
@@ -116,19 +116,19 @@ returns-7 c = c .numbered7 .ensures ∙ (rw (c .before .if-printable2 .ensures))
 
 returns-8 : tie.Need-returns-8
 unfolding meant
-returns-8 c = c .numbered8 .ensures ∙ sym (ap meant (c .before .before .m8 .given .1))
+returns-8 c = rw (c .before .before .m8 .given .1) (c .numbered8 .ensures)
 
 returns-9 : tie.Need-returns-9
 unfolding meant
-returns-9 c = c .numbered9 .ensures ∙ sym (ap meant (c .before .before .m9 .given .1))
+returns-9 c = rw (c .before .before .m9 .given .1) (c .numbered9 .ensures)
 
 returns-10 : tie.Need-returns-10
 unfolding meant
-returns-10 c = c .numbered10 .ensures ∙ sym (ap meant (c .before .before .m10 .given .1))
+returns-10 c = rw (c .before .before .m10 .given .1) (c .numbered10 .ensures)
 
 returns-11 : tie.Need-returns-11
 unfolding meant
-returns-11 c = c .numbered11 .ensures ∙ sym (ap meant (c .before .before .m11 .given .1))
+returns-11 c = rw (c .before .before .m11 .given .1) (c .numbered11 .ensures)
 
 returns-12 : tie.Need-returns-12
 unfolding meant
@@ -136,7 +136,7 @@ returns-12 c = sym (ap meant (c .before .m12 .given .1))
 
 returns-13 : tie.Need-returns-13
 unfolding meant
-returns-13 c = c .numbered12 .ensures ∙ sym (ap meant (c .before .before .m13 .given .1))
+returns-13 c = rw (c .before .before .m13 .given .1) (c .numbered12 .ensures)
 
 pub act-of-spec : {M : Type 1} → statement M
 act-of-spec =

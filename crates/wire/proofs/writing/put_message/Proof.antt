@@ -1,9 +1,9 @@
--- The numbers, the array and the last byte, stored in turn, are the bytes of the message (`stored-is-image`).
-use mathlib.Core.Path.{_≡_, _∙_}
+-- The numbers, the array and the last byte, stored in turn, are the bytes of the message (`stored-in-turn`).
+use mathlib.Core.Path.{_≡_}
 use denote.Ref.{now}
 use lib.ListN.{length}
 use Rattle.wire.specs.Bytes.{plainRoom}
-use Rattle.wire.proofs.Laying.{ends-rise, stored-is-image}
+use Rattle.wire.proofs.Laying.{ends-rise, stored-in-turn}
 use borrow.Author.Needs.{needs}
 use Rattle.wire.proofs.writing.put_message.Statement.{statement}
 use Rattle.wire.proofs.writing.put_message.Tie as tie
@@ -39,8 +39,8 @@ returns c = let p = c .before .before in
     let k = v .before in
     let b = k .before .before in
     let a = b .args in
-    p .put-value .ensures ∙ rw (r .put-plain .ensures, q .put-values .ensures, k .ends-of .ensures, v .values-of .ensures)
-    (stored-is-image (a .l) (b .pre .0) (now (a .out)) (a .plain) (a .number) (a .f) (b .pre .1) (plain-long b))
+    stored-in-turn (a .l) (b .pre .0) (now (a .out)) (a .plain) (a .number) (a .f) (b .pre .1) (plain-long b) _ _ _
+    (rw (k .ends-of .ensures, v .values-of .ensures) at (q .put-values .ensures)) (r .put-plain .ensures) (p .put-value .ensures)
 
 pub put-message-spec : {M : Type 1} → statement M
 put-message-spec =
