@@ -8,3 +8,4 @@ pub mod Printouts
 pub mod Sheets
 pub mod Passing
 pub mod DoneLines
+pub mod Answers

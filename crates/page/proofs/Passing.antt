@@ -149,3 +149,10 @@ pub lay-moves : (second size : ℕ) (v : View) (part : List ℕ) (at place : ℕ
 unfolding layOf
 lay-moves second size v part at place fits =
     moves-from second size (walkOf part at .answer) v at place fits (reach-refuses (drop (walkOf part at .at) part) (walkOf part at .answer) (stops-there part at) .1) (walkOf part at .messages) (every-stream part at .complete)
+
+-- ---- it ends as the walk does, with 1 or 2, or with 15
+pub laying-ends : (second size : ℕ) (v : View) (part : List ℕ) (at place : ℕ) → ((1 ≤ layOf second size v part at place .answer) × (layOf second size v part at place .answer ≤ 2)) ⊎ (layOf second size v part at place .answer ≡ 15)
+unfolding layOf
+laying-ends second size v part at place =
+    ⊎-elim (λ y. inl (rw (y .1) (reach-refuses (drop (walkOf part at .at) part) (walkOf part at .answer) (stops-there part at)))) inr
+    (lays-some second size (walkOf part at .answer) (walkOf part at .messages) (opening v at place) .why)

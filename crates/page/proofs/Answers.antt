@@ -1,0 +1,101 @@
+-- The numbers that a call can answer with are those of the clauses of its rule, and each clause that refuses leaves the buffer.
+use mathlib.Core.Bool.{Bool, true, false}
+use mathlib.Core.List.{List, [], _∷_}
+use mathlib.Core.Logic.{_⊎_, ⊎-elim}
+use mathlib.Core.Path.{_≡_, refl, sym, ap, _∙_}
+use Prim.Native.Nat.{ℕ, zero, suc, _≤_, _<_}
+use native.Mathlib.Omega.{arith}
+use borrow.Author.Tests.{ltb-true, ltb-false}
+use lib.Dec.{ltb}
+use lib.ListN.{length, drop}
+use Rattle.wire.specs.Outcome.{refused, numberOf}
+use Rattle.wire.specs.Message.{typeOf, hasBadField}
+use Rattle.wire.specs.declared.Message.{Message}
+use Rattle.wire.proofs.Answers.{reach-refuses}
+use Rattle.wire.proofs.Cases.{done-is-not-refused}
+use Rattle.places.specs.Places.{among}
+use Rattle.symbols.specs.declared.registering.Listing.{Listing}
+use Rattle.book.specs.State.{view, Wf}
+use Rattle.book.specs.Walk.{walkOf}
+use Rattle.book.specs.declared.Book.{Book}
+use Rattle.book.proofs.Positions.{stops-there}
+use Rattle.page.specs.Printing.{hasNoLine, lastSecond, laidIf, laid, lineBy, lineOf}
+use Rattle.page.specs.Laying.{layOf, Lays}
+use Rattle.page.specs.declared.laying.Laid.{Laid}
+use Rattle.page.proofs.Passing.{laying-ends}
+
+-- ---- a line: 0, 3, 4, 5, 14 and 15; the end: 0 and 15
+laid-if-answers : (short : Bool) (line out : List ℕ) → among (numberOf (laidIf short line out .outcome)) (0 ∷ 15 ∷ []) ≡ true
+unfolding among
+laid-if-answers true line out = refl
+laid-if-answers false line out = refl
+
+pub laid-answers : (line out : List ℕ) → among (numberOf (laid line out .outcome)) (0 ∷ 15 ∷ []) ≡ true
+unfolding laid
+laid-answers line out = laid-if-answers (ltb (length out) (length line)) line out
+
+by-checks : (no-line bad known late short : Bool) (line out : List ℕ) → ltb (length out) (length line) ≡ short → among (numberOf (lineBy no-line bad known late line out .outcome)) (0 ∷ 3 ∷ 4 ∷ 5 ∷ 14 ∷ 15 ∷ []) ≡ true
+unfolding lineBy laid among
+by-checks true bad known late short line out e = refl
+by-checks false true known late short line out e = refl
+by-checks false false false late short line out e = refl
+by-checks false false true true short line out e = refl
+by-checks false false true false true line out e = rw e
+by-checks false false true false false line out e = rw e
+
+pub line-answers : (s : Listing) (m : Message) (plain : List ℕ) (sequence second : ℕ) (out : List ℕ) → among (numberOf (lineOf s m plain sequence second out .outcome)) (0 ∷ 3 ∷ 4 ∷ 5 ∷ 14 ∷ 15 ∷ []) ≡ true
+unfolding lineOf
+line-answers s m plain sequence second out = by-checks _ _ _ _ _ _ out refl
+
+-- ---- refused, the buffer is as it was
+laid-if-refused : (short : Bool) (line out : List ℕ) (k : ℕ) → laidIf short line out .outcome ≡ refused k → laidIf short line out .out ≡ out
+laid-if-refused true line out k e = refl
+laid-if-refused false line out k e = absurd (done-is-not-refused (sym e))
+
+pub laid-refused : (line out : List ℕ) (k : ℕ) → laid line out .outcome ≡ refused k → laid line out .out ≡ out
+unfolding laid
+laid-refused line out k e = laid-if-refused (ltb (length out) (length line)) line out k e
+
+by-refusal : (no-line bad known late : Bool) (line out : List ℕ) (k : ℕ) → lineBy no-line bad known late line out .outcome ≡ refused k → lineBy no-line bad known late line out .out ≡ out
+unfolding lineBy
+by-refusal true bad known late line out k e = refl
+by-refusal false true known late line out k e = refl
+by-refusal false false false late line out k e = refl
+by-refusal false false true true line out k e = refl
+by-refusal false false true false line out k e = laid-refused line out k e
+
+pub line-refused : (s : Listing) (m : Message) (plain : List ℕ) (sequence second : ℕ) (out : List ℕ) (k : ℕ) → lineOf s m plain sequence second out .outcome ≡ refused k → lineOf s m plain sequence second out .out ≡ out
+unfolding lineOf
+line-refused s m plain sequence second out k e = by-refusal _ _ _ _ _ out k e
+
+-- ---- a laying: 1, 2 and 15, and 14 past the last second alone
+one-two-fifteen : (a : ℕ) → ((1 ≤ a) × (a ≤ 2)) ⊎ (a ≡ 15) → (among a (1 ∷ 2 ∷ 14 ∷ 15 ∷ []) ≡ true) × (a ≡ 14 → ⊥)
+unfolding among
+one-two-fifteen a x = ⊎-elim (λ y. (small a (y .0) (y .1), λ z. omega (arith, z, y .1))) (λ e. (rw e, λ z. omega (arith, z, e))) x
+  where
+    small : (k : ℕ) → 1 ≤ k → k ≤ 2 → among k (1 ∷ 2 ∷ 14 ∷ 15 ∷ []) ≡ true
+    small zero h l = absurd (omega (arith, h))
+    small (suc zero) h l = refl
+    small (suc (suc zero)) h l = refl
+    small (suc (suc (suc k))) h l = absurd (omega (arith, l))
+
+module _ {b : Book} {stream : List ℕ} {from place second : ℕ} {before : List ℕ} {r : Laid} {after : List ℕ} (w : Wf b) (lays : Lays b stream from place second before r after) where
+  in-the-day : second ≤ lastSecond → (among (r .answer) (1 ∷ 2 ∷ 14 ∷ 15 ∷ []) ≡ true) × (r .answer ≡ 14 → ⊥)
+  in-the-day day =
+      one-two-fifteen (r .answer)
+      (rw (lays .obeys day w .answer) (laying-ends second (length before) (view b) stream from place))
+
+  pub laying-answers : among (r .answer) (1 ∷ 2 ∷ 14 ∷ 15 ∷ []) ≡ true
+  unfolding among
+  laying-answers = go (ltb lastSecond second) refl
+    where
+      go : (late : Bool) → ltb lastSecond second ≡ late → among (r .answer) (1 ∷ 2 ∷ 14 ∷ 15 ∷ []) ≡ true
+      go true e = rw (ap (λ (x : Laid). x .answer) (lays .late (ltb-true lastSecond second e) .0))
+      go false e = in-the-day (ltb-false lastSecond second e) .0
+
+  pub only-late : r .answer ≡ 14 → lastSecond < second
+  only-late e = go (ltb lastSecond second) refl
+    where
+      go : (late : Bool) → ltb lastSecond second ≡ late → lastSecond < second
+      go true q = ltb-true lastSecond second q
+      go false q = absurd (in-the-day (ltb-false lastSecond second q) .1 e)
