@@ -7,7 +7,7 @@ use mathlib.Core.Path.{_≡_, refl, sym, subst}
 use Prim.Native.Nat.{ℕ, _≤_}
 use native.Mathlib.Omega.{arith}
 use lib.Dec.{ltb, eqb}
-use borrow.Author.Tests.{eq-eqb, eqb-true, ltb-false}
+use borrow.Author.Tests.{eqb-true, ltb-false}
 use Rattle.feed.specs.Reader.{Fit, fits, misfit}
 use Rattle.places.specs.Places.{insert, remove, look}
 use Rattle.places.proofs.Sorted.{sum-insert, look-key, look-there, sum-remove}
@@ -16,21 +16,14 @@ use Rattle.orders.specs.Rules.{less, taken, executed, applyTo}
 use Rattle.orders.specs.Levels.{sharesAt, TakesOff}
 use Rattle.orders.specs.declared.Order.{Order}
 use Rattle.orders.specs.declared.Change.{Change}
+use Rattle.orders.proofs.Sides.{shares-own}
 
--- ---- the shares of an order stand at its own price and side, and nowhere else
-same-side : (side : Bool) → Bool·beq side side ≡ true
-same-side true = refl
-same-side false = refl
-
+-- ---- an order has no shares elsewhere than at its own price and side
 side-is : (own side : Bool) → Bool·beq own side ≡ true → side ≡ own
 side-is true true e = refl
 side-is true false e = absurd (false≢true e)
 side-is false true e = absurd (false≢true e)
 side-is false false e = refl
-
-shares-own : (o : Order) → o .live ≡ true → sharesAt (o .buy) (o .price) o ≡ o .volume
-unfolding sharesAt
-shares-own o l = rw (l, same-side (o .buy), eq-eqb (o .price) (o .price) refl)
 
 shares-elsewhere : (o : Order) (buy : Bool) (price : ℕ) → (buy ≡ o .buy → price ≢ o .price) → sharesAt buy price o ≡ 0
 unfolding sharesAt

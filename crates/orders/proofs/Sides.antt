@@ -115,14 +115,19 @@ pub none-live : (buy : Bool) (os : List Order) → levelOf buy os ≡ Level.Empt
 unfolding levelOf
 none-live buy os e o m c = true≢false (sym (best-of-all buy os o m c .0) ∙ none-best (bestOf buy os) _ e)
 
+-- ---- a live order has its shares at its own price and side
+same-side : (side : Bool) → Bool·beq side side ≡ true
+same-side true = refl
+same-side false = refl
+
+pub shares-own : (o : Order) → o .live ≡ true → sharesAt (o .buy) (o .price) o ≡ o .volume
+unfolding sharesAt
+shares-own o l = rw (l, same-side (o .buy), eq-eqb (o .price) (o .price) refl)
+
 -- ---- one order more at the best price raises the size by its volume
 module _ (buy : Bool) (os : List Order) (n p v : ℕ) where
   abbrev o : Order
   o = orderOf n buy p v
-
-  same-side : (side : Bool) → Bool·beq side side ≡ true
-  same-side true = refl
-  same-side false = refl
 
   best-again : (b : Best) → b .some ≡ true → b .price ≡ p → bestStep buy o b ≡ record { some = true; price = p }
   unfolding bestStep
@@ -132,14 +137,10 @@ module _ (buy : Bool) (os : List Order) (n p v : ℕ) where
       go true = omega arith
       go false = omega arith
 
-  shares-own : sharesAt buy p o ≡ v
-  unfolding sharesAt
-  shares-own = rw (same-side buy, eq-eqb p p refl)
-
   pub add-level : (m : ℕ) → levelOf buy os ≡ Level.Best p m → levelOf buy (insert orderNumber o os) ≡ Level.Best p (m + v)
   unfolding levelOf
   add-level m e =
       let sh = shows buy os p m e in
       let best : bestOf buy (insert orderNumber o os) ≡ record { some = true; price = p } = fold-insert (bestStep buy) noBest orderNumber (best-comm buy) o os ∙ best-again (bestOf buy os) (sh .some) (sh .price) in
-      let sum : sumBy (sharesAt buy p) (insert orderNumber o os) ≡ m + v = sum-insert orderNumber (sharesAt buy p) o os ∙ (rw (shares-own, sh .size) (omega arith)) in
+      let sum : sumBy (sharesAt buy p) (insert orderNumber o os) ≡ m + v = sum-insert orderNumber (sharesAt buy p) o os ∙ (rw (shares-own o refl, sh .size) (omega arith)) in
       rw (best, sum)
