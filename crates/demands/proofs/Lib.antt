@@ -11,3 +11,4 @@ pub mod Clauses
 pub mod OneOutcome
 pub mod Examples
 pub mod Unfaithful
+pub mod EveryNumber

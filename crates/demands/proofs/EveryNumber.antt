@@ -1,0 +1,112 @@
+-- Every number that demand 1 lists is given: by computation, of some bytes and of views that the calls make.
+use mathlib.Core.List.{List, [], _∷_}
+use mathlib.Core.Path.{_≡_, refl}
+use Prim.Native.Nat.{ℕ, zero, suc, _+_}
+use lib.ListN.{replicate}
+use Rattle.wire.specs.Outcome.{done, refused}
+use Rattle.wire.specs.Bytes.{value, littleEndian, plainRoom}
+use Rattle.wire.specs.Table.{shapeOf}
+use Rattle.wire.specs.Fields.{faultBy, faultOf}
+use Rattle.wire.specs.Reading.{reachBy, reachOf, readBy, readBody, readSized, readShape, readTyped, readReached, readOf}
+use Rattle.wire.specs.Writing.{writeSized, writeBy, writeShape, writeOf}
+use Rattle.wire.specs.declared.Message.{Message}
+use Rattle.feed.specs.Reader.{ruled}
+use Rattle.places.specs.Places.{firstWhere, tabulate, insert, remove, look}
+use Rattle.symbols.specs.State.{placeOf, foundIn, vacancyOf}
+use Rattle.symbols.specs.Registering as registering
+use Rattle.symbols.specs.Registering.{nameBad}
+use Rattle.orders.specs.Rules.{applyTo}
+use Rattle.record.specs.Rules.{dealTo}
+use Rattle.book.specs.State.{View, newView}
+use Rattle.book.specs.Registering.{registerOf, toldIn}
+use Rattle.book.specs.Quote.{quoteOf, volumeOf}
+use Rattle.book.specs.Step.{enacted, meeting, actOn, meant, stepOf}
+use Rattle.book.specs.Walk.{moveOf, stepsOf}
+use Rattle.demands.specs.Examples.{name, scale, viewABC}
+use Rattle.demands.specs.Messages.{index, buy, add, delete, clear}
+
+-- ---- `wire`
+abbrev small : List ℕ
+small = 3 ∷ 0 ∷ 100 ∷ 0 ∷ []
+
+abbrev unknown : List ℕ
+unknown = 4 ∷ 0 ∷ 255 ∷ 255 ∷ []
+
+abbrev deletion : (nanos : ℕ) → Message
+deletion nanos = Message.Delete (record { nanos = nanos; index = index; number = 1 }) 1001
+
+abbrev zeros : List ℕ
+zeros = replicate plainRoom 0
+
+pub record ByWire : Type 0 where
+  pub reach-0 : reachOf (clear 1) ≡ done 20
+  pub reach-1 : reachOf [] ≡ refused 1
+  pub reach-2 : reachOf small ≡ refused 2
+  pub read-1 : readOf [] .outcome ≡ refused 1
+  pub read-2 : readOf small .outcome ≡ refused 2
+  pub read-3 : readOf unknown .outcome ≡ refused 3
+  pub read-4 : readOf (add 1 1001 0 1234500 200) .outcome ≡ refused 4
+  pub write-0 : writeOf (deletion 125) zeros (replicate 25 0) .outcome ≡ done 25
+  pub write-4 : writeOf (deletion 1000000000) zeros (replicate 25 0) .outcome ≡ refused 4
+  pub write-15 : writeOf (deletion 125) zeros (replicate 24 0) .outcome ≡ refused 15
+
+pub by-wire : ByWire
+unfolding value littleEndian shapeOf faultBy faultOf reachBy reachOf readBy readBody readSized readShape readTyped readReached readOf writeSized writeBy writeShape writeOf
+by-wire = record { reach-0 = refl; reach-1 = refl; reach-2 = refl; read-1 = refl; read-2 = refl; read-3 = refl; read-4 = refl; write-0 = refl; write-4 = refl; write-15 = refl }
+
+-- ---- registering, and a quote
+abbrev gap : List ℕ
+gap = add 2 1001 buy 1234500 200
+
+-- so many symbols registered
+unfoldable pub registeredTo : ℕ → View
+registeredTo zero = newView
+registeredTo (suc n) = registerOf (registeredTo n) n name scale .view
+
+pub record ByBook : Type 0 where
+  pub register-0 : registerOf newView index name scale .answer ≡ 0
+  pub register-11 : registerOf viewABC index name scale .answer ≡ 11
+  pub register-12 : registerOf (registeredTo 8) 8 name scale .answer ≡ 12
+  pub register-13 : registerOf newView index name 7 .answer ≡ 13
+  pub quote-0 : quoteOf index viewABC .answer ≡ 0
+  pub quote-5 : quoteOf index newView .answer ≡ 5
+  pub quote-8 : quoteOf index (stepsOf viewABC (gap ∷ [])) .answer ≡ 8
+  pub volume-0 : volumeOf index viewABC .answer ≡ 0
+  pub volume-5 : volumeOf index newView .answer ≡ 5
+  pub symbol-0 : toldIn index viewABC .answer ≡ 0
+  pub symbol-5 : toldIn index newView .answer ≡ 5
+
+pub by-book : ByBook
+unfolding registeredTo value littleEndian shapeOf faultBy faultOf reachBy reachOf readBy readBody readSized readShape readTyped readReached readOf firstWhere insert remove look placeOf foundIn vacancyOf applyTo dealTo nameBad registering.registered registering.toldOf toldIn quoteOf volumeOf ruled enacted meeting actOn meant stepOf stepsOf
+by-book = record { register-0 = refl; register-11 = refl; register-12 = refl; register-13 = refl; quote-0 = refl; quote-5 = refl; quote-8 = refl; volume-0 = refl; volume-5 = refl; symbol-0 = refl; symbol-5 = refl }
+
+-- ---- a message, with ABC registered
+abbrev one : List ℕ
+one = add 1 1001 buy 1234500 200
+
+abbrev Answered : View → List ℕ → ℕ → Type 0
+Answered v s answer = moveOf v s 0 .answer ≡ answer
+
+pub record ByMessage : Type 0 where
+  pub given-0 : Answered viewABC one 0
+  pub given-1 : Answered viewABC [] 1
+  pub given-2 : Answered viewABC small 2
+  pub given-3 : Answered viewABC unknown 3
+  pub given-4 : Answered viewABC (add 1 1001 0 1234500 200) 4
+  pub given-5 : Answered newView one 5
+  pub given-6 : Answered viewABC (add 0 1001 buy 1234500 200) 6
+  pub given-7 : Answered viewABC gap 7
+  pub given-8 : Answered (stepsOf viewABC (gap ∷ [])) one 8
+  pub given-9 : Answered viewABC (delete 1 1001) 9
+
+pub by-message : ByMessage
+unfolding value littleEndian shapeOf faultBy faultOf reachBy reachOf readBy readBody readSized readShape readTyped readReached readOf firstWhere insert remove look placeOf foundIn vacancyOf applyTo dealTo nameBad registering.registered ruled enacted meeting actOn meant stepOf moveOf stepsOf
+by-message = record { given-0 = refl; given-1 = refl; given-2 = refl; given-3 = refl; given-4 = refl; given-5 = refl; given-6 = refl; given-7 = refl; given-8 = refl; given-9 = refl }
+
+-- 64 live orders, and one more
+abbrev adds : List (List ℕ)
+adds = tabulate 64 (λ k. add (k + 1) (k + 1) buy 1234500 200)
+
+pub given-10 : Answered (stepsOf viewABC adds) (add 65 65 buy 1234500 200) 10
+unfolding value littleEndian shapeOf faultBy faultOf reachBy reachOf readBy readBody readSized readShape readTyped readReached readOf firstWhere tabulate insert remove look placeOf foundIn vacancyOf applyTo dealTo nameBad registering.registered ruled enacted meeting actOn meant stepOf moveOf stepsOf
+given-10 = refl
