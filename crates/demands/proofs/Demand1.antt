@@ -37,7 +37,11 @@ use Rattle.book.proofs.Positions.{position-is-sum, stops-there}
 use Rattle.book.proofs.Reaching.{reached-wf, alike}
 use Rattle.book.proofs.Refusals.{stale-view}
 use Rattle.demands.specs.Reader.{Orders, Effect}
-use Rattle.demands.specs.Demand1.{OneOf, Answers, WireNumbers, BookNumbers, Buffers, LeavesStale, Refusals, States, Questions, TooFew, no-size, cut, Stays, Passes, Positions, Moving, Demand1}
+use Rattle.page.specs.Printing.{laid, lineOf, told}
+use Rattle.page.specs.Printout.{closing}
+use Rattle.page.proofs.Cases.{bytes-beyond-stay, laid-beyond}
+use Rattle.page.proofs.Answers.{laid-answers, line-answers, laid-refused, line-refused, laying-answers, only-late}
+use Rattle.demands.specs.Demand1.{OneOf, Answers, WireNumbers, PageNumbers, Pages, BookNumbers, Buffers, LeavesStale, Refusals, States, Questions, TooFew, no-size, cut, Stays, Passes, Positions, Moving, Demand1}
 use Rattle.demands.specs.Demand3.{StandsAt}
 use Rattle.demands.proofs.Demand3.{stands-acts}
 
@@ -276,6 +280,27 @@ module _ {b : Book} (p : Reached b) where
     beyond = write-fills;
   }
 
+  page-numbers : PageNumbers b
+  page-numbers = record {
+    printing = λ m plain sequence second out. line-answers (told b m) m plain sequence second out;
+    laying = λ x. laying-answers (reached-wf p) x;
+    ending = λ index answer out. laid-answers (closing (view b) index answer) out;
+  }
+
+  pages : Pages b
+  pages = record {
+    printing = λ m plain sequence second out. record {
+      refused-untouched = λ n e. (line-refused (told b m) m plain sequence second out n e, ap countOf e);
+      beyond = bytes-beyond-stay (told b m) m plain sequence second out;
+    };
+    ending = λ index answer out. record {
+      refused-untouched = λ n e. (laid-refused (closing (view b) index answer) out n e, ap countOf e);
+      beyond = laid-beyond (closing (view b) index answer) out;
+    };
+    late = λ x e. x .late (only-late (reached-wf p) x e);
+    beyond = λ x. x .beyond;
+  }
+
   refusals : Refusals b
   refusals = record {
     unchanged = λ {r = r} m h. m .kept (among-more (r .answer) (1 ∷ 2 ∷ 3 ∷ 4 ∷ 5 ∷ 6 ∷ 8 ∷ []) (11 ∷ 12 ∷ 13 ∷ []) h);
@@ -314,7 +339,9 @@ module _ {b : Book} (p : Reached b) where
   demand-1-holds = record {
     wire-numbers = wire-numbers;
     book-numbers = book-numbers;
+    page-numbers = page-numbers;
     buffers = buffers;
+    pages = pages;
     refusals = refusals;
     states = states;
     questions = questions;

@@ -15,7 +15,7 @@ use Rattle.symbols.specs.Registering.{Next}
 use Rattle.book.specs.State.{Symbol, View, view, Wf}
 use Rattle.book.specs.Step.{actOn, meant, stepOn, stepOf}
 use Rattle.book.specs.Quote.{quoteOf}
-use Rattle.book.specs.Walk.{moveBy, moveOf, stepsOf, runOf, Moves}
+use Rattle.book.specs.Walk.{AllComplete, moveBy, moveOf, stepsOf, runOf, Moves}
 use Rattle.book.specs.declared.Book.{Book}
 use Rattle.book.specs.declared.walk.Moved.{Moved}
 use Rattle.book.proofs.Walking.{steps-join}
@@ -24,7 +24,7 @@ use Rattle.demands.specs.ByteFeed.{ByteFeed, hears, sent, delivered, IsD
 use Rattle.demands.specs.Demand3.{Began, StandsAt, Reads, nothing, applies, refuses, runs, RunsOver, ran, Given, AnswersZero, nothing-yet, to-heard, to-lost, AnsweredAs, Demand3, quoteIn}
 use Rattle.demands.proofs.Reader.{reader, quotes-kept}
 use Rattle.demands.proofs.Starting.{began-wf}
-use Rattle.demands.proofs.Laying.{AllComplete, sent-complete, delivered-complete, walks-messages}
+use Rattle.demands.proofs.Laying.{sent-complete, delivered-complete, walks-messages}
 use Rattle.demands.proofs.Moments.{given-at}
 use Rattle.demands.proofs.Refused.{refused-changes-nothing, counted-steps, all-count}
 use Rattle.demands.proofs.Translating.{steps-last, first-steps, second-steps, heard-says, heard-acts, is-registered, given-feed}

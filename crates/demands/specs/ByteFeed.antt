@@ -11,7 +11,7 @@ use Rattle.feed.specs.Reader.{Act}
 use Rattle.feed.specs.Feed.{Item, Feed, start, _▷_, heard, lost}
 use Rattle.book.specs.State.{View}
 use Rattle.book.specs.Step.{stepOf, meant}
-use Rattle.book.specs.Walk.{stepsOf}
+use Rattle.book.specs.Walk.{CompleteMessage, stepsOf}
 use Rattle.demands.specs.Reader.{Effect}
 
 -- A feed up to a moment, the last message outermost: each message, in bytes, is heard by the second reader or lost on the way to it.
@@ -31,11 +31,6 @@ delivered begins = []
 delivered (hears f m) = delivered f ++ m ∷ []
 delivered (loses f m) = delivered f
 
--- messages laid end to end
-unfoldable pub endToEnd : List (List ℕ) → List ℕ
-endToEnd [] = []
-endToEnd (m ∷ ms) = m ++ endToEnd ms
-
 -- h is f, or an earlier moment of it
 pub data Moment (h : ByteFeed) : ByteFeed → Type 0 where
   now : Moment h h
@@ -44,9 +39,6 @@ pub data Moment (h : ByteFeed) : ByteFeed → Type 0 where
 
 -- ---- what is asked of it
 -- each message has as many bytes as its Msg Size says
-abbrev pub CompleteMessage : List ℕ → Type 0
-CompleteMessage m = reachOf m ≡ done (length m)
-
 unfoldable pub Complete : ByteFeed → Type 0
 Complete begins = Unit {0}
 Complete (hears f m) = Complete f × CompleteMessage m

@@ -8,7 +8,7 @@ use lib.ListN.{length, drop, replicate}
 use Rattle.wire.specs.Outcome.{done, refused, numberOf}
 use Rattle.wire.specs.Bytes.{plainRoom}
 use Rattle.wire.specs.Reading.{leastSize, msgSize, reachOf, noMessage, readOf}
-use Rattle.wire.specs.Writing.{countOf, Fills, writeOf}
+use Rattle.wire.specs.Writing.{Write, countOf, Fills, writeOf}
 use Rattle.wire.specs.declared.Message.{Message}
 use Rattle.feed.specs.Reader.{indexOf}
 use Rattle.places.specs.Places.{among, sumBy}
@@ -25,6 +25,10 @@ use Rattle.book.specs.declared.Book.{Book}
 use Rattle.book.specs.declared.Done.{Done}
 use Rattle.book.specs.declared.walk.Moved.{Moved}
 use Rattle.book.specs.declared.walk.Ran.{Ran}
+use Rattle.page.specs.Printing.{laid, lineOf, told}
+use Rattle.page.specs.Printout.{closing}
+use Rattle.page.specs.Laying.{Lays}
+use Rattle.page.specs.declared.laying.Laid.{Laid}
 use Rattle.demands.specs.Demand3.{StandsAt, quoteIn}
 
 -- ---- the numbers: a call answers with one of its own, and where a rule decides which, with the rule's
@@ -50,7 +54,18 @@ pub record BookNumbers (b : Book) : Type 0 where
   pub summing : (index : ℕ) → OneOf (0 ∷ 5 ∷ []) (volumeOf index (view b) .answer)
   pub telling : {r : Listing} (index : ℕ) → r ≡ toldIn index (view b) → OneOf (0 ∷ 5 ∷ []) (r .answer)
 
+-- `page`: a line, a laying, and the end
+pub record PageNumbers (b : Book) : Type 0 where
+  pub printing : (m : Message) (plain : List ℕ) (sequence second : ℕ) (out : List ℕ) → OneOf (0 ∷ 3 ∷ 4 ∷ 5 ∷ 14 ∷ 15 ∷ []) (numberOf (lineOf (told b m) m plain sequence second out .outcome))
+  pub laying : {stream before after : List ℕ} {at place second : ℕ} {r : Laid} → Lays b stream at place second before r after → OneOf (1 ∷ 2 ∷ 14 ∷ 15 ∷ []) (r .answer)
+  pub ending : (index answer : ℕ) (out : List ℕ) → OneOf (0 ∷ 15 ∷ []) (numberOf (laid (closing (view b) index answer) out .outcome))
+
 -- ---- what a refusal leaves
+-- refused, the buffer is as it was and the count 0; done, no byte beyond the count changes
+pub record Printing (w : Write) (out : List ℕ) : Type 0 where
+  pub refused-untouched : (number : ℕ) → w .outcome ≡ refused number → (w .out ≡ out) × (countOf (w .outcome) ≡ 0)
+  pub beyond : drop (countOf (w .outcome)) (w .out) ≡ drop (countOf (w .outcome)) out
+
 -- the output: a refused read and a refused write
 pub record Buffers : Type 0 where
   -- no message is handed back, and zeros for its byte array
@@ -59,6 +74,16 @@ pub record Buffers : Type 0 where
   pub writing : (m : Message) (plain out : List ℕ) (number : ℕ) → writeOf m plain out .outcome ≡ refused number → (writeOf m plain out .out ≡ out) × (countOf (writeOf m plain out .outcome) ≡ 0)
   -- refused or done, no byte beyond the count changes
   pub beyond : (m : Message) (plain out : List ℕ) → length plain ≡ plainRoom → Fills out (writeOf m plain out)
+
+-- the page: a refused line or end leaves the buffer as it was, with the count 0, and a done one every byte beyond its count
+pub record Pages (b : Book) : Type 0 where
+  pub printing : (m : Message) (plain : List ℕ) (sequence second : ℕ) (out : List ℕ) → Printing (lineOf (told b m) m plain sequence second out) out
+  pub ending : (index answer : ℕ) (out : List ℕ) → Printing (laid (closing (view b) index answer) out) out
+  -- a laying past the last second of the day hands back the state that came in, the position and the place, and leaves the buffer
+  pub late : {stream before after : List ℕ} {at place second : ℕ} {r : Laid} → Lays b stream at place second before r after → r .answer ≡ 14
+      → (r ≡ record { book = b; at = at; place = place; count = 0; answer = 14 }) × (after ≡ before)
+  -- and whatever it answers, no byte beyond the count changes
+  pub beyond : {stream before after : List ℕ} {at place second : ℕ} {r : Laid} → Lays b stream at place second before r after → drop (r .count) after ≡ drop (r .count) before
 
 -- the message at the position was read; its symbol becomes stale and loses its mark, and nothing else changes
 pub record LeavesStale (b : Book) (s : List ℕ) (at : ℕ) (r : Moved) : Type 0 where
@@ -141,7 +166,9 @@ pub record Moving (b : Book) : Type 0 where
 pub record Demand1 (b : Book) : Type 0 where
   pub wire-numbers : WireNumbers
   pub book-numbers : BookNumbers b
+  pub page-numbers : PageNumbers b
   pub buffers : Buffers
+  pub pages : Pages b
   pub refusals : Refusals b
   pub states : States b
   pub questions : Questions b

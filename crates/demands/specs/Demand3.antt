@@ -1,7 +1,7 @@
 -- Demand 3 of document 00 for the reader that is built: what two readers are, what is given of them and of the feed, and what the second one then quotes.
 use Prim.Native.Nat.{ℕ, _≤_}
 use mathlib.Core.Bool.{false}
-use mathlib.Core.List.{List, [], _∷_, _++_}
+use mathlib.Core.List.{List, [], _∷_, _++_, flatten}
 use mathlib.Core.Logic.{_↔_}
 use mathlib.Core.Option.{some}
 use mathlib.Core.Path.{_≡_}
@@ -24,7 +24,7 @@ use Rattle.book.specs.declared.quote.Quote.{Quote}
 use Rattle.book.specs.declared.walk.Moved.{Moved}
 use Rattle.book.specs.declared.walk.Ran.{Ran}
 use Rattle.demands.specs.Reader.{pillar, Effect, Registered}
-use Rattle.demands.specs.ByteFeed.{ByteFeed, begins, hears, loses, sent, delivered, endToEnd, Moment, Complete, Applied, ClearsDelivered, actIn, feedOf}
+use Rattle.demands.specs.ByteFeed.{ByteFeed, begins, hears, loses, sent, delivered, Moment, Complete, Applied, ClearsDelivered, actIn, feedOf}
 
 -- ---- the states of a reader, by the promises of the calls that hand them back
 -- a new state with symbols registered, in any order and whatever registering answers
@@ -53,7 +53,7 @@ pub data Reads (b : Book) : List (List ℕ) → Book → Type 0 where
 
 -- the same by one run over the messages laid end to end, as those of every stream are (`every-stream`)
 pub data RunsOver (b : Book) (ms : List (List ℕ)) : Book → Type 0 where
-  ran : {r : Ran} → Runs b (endToEnd ms) 0 r → RunsOver b ms (r .book)
+  ran : {r : Ran} → Runs b (flatten ms) 0 r → RunsOver b ms (r .book)
 
 -- ---- what is given: two new readers with the same symbols, and a feed of which a reader that is given all refuses nothing; what is lost of it is numbered
 pub record Given (b c : Book) (f : ByteFeed) : Type 0 where

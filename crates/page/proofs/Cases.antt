@@ -72,13 +72,17 @@ laid-stays : (short : Bool) (line out : List ℕ) → StaysBeyond (laidIf short 
 laid-stays true line out = refl
 laid-stays false line out = drop-append-seam line (drop (length line) out)
 
+pub laid-beyond : (line out : List ℕ) → StaysBeyond (laid line out) out
+unfolding laid
+laid-beyond line out = laid-stays (ltb (length out) (length line)) line out
+
 line-stays : (no-line bad known late : Bool) (line out : List ℕ) → StaysBeyond (lineBy no-line bad known late line out) out
-unfolding lineBy laid
+unfolding lineBy
 line-stays true bad known late line out = refl
 line-stays false true known late line out = refl
 line-stays false false false late line out = refl
 line-stays false false true true line out = refl
-line-stays false false true false line out = laid-stays (ltb (length out) (length line)) line out
+line-stays false false true false line out = laid-beyond line out
 
 pub bytes-beyond-stay : (s : Listing) (m : Message) (plain : List ℕ) (sequence second : ℕ) (out : List ℕ) → StaysBeyond (lineOf s m plain sequence second out) out
 unfolding lineOf
