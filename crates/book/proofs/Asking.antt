@@ -5,7 +5,7 @@ use mathlib.Core.Path.{_≡_, sym, ap, _∙_}
 use Prim.Native.Nat.{ℕ, _<_, _≤_}
 use Rattle.places.specs.Places.{symbols}
 use Rattle.places.proofs.EightShelves.{by-place}
-use Rattle.symbols.specs.State.{Entry, entries, itself, placeOf, foundIn}
+use Rattle.symbols.specs.State.{entries, itself, placeOf, foundIn}
 use Rattle.symbols.specs.Turns.{standingOf}
 use Rattle.symbols.specs.Registering.{toldOf}
 use Rattle.symbols.specs.declared.Standing.{Standing}

@@ -1,5 +1,5 @@
 -- Every stream is complete messages end to end and then what is left: a walk passes what each Msg Size reaches over, and the next message starts behind it.
-use mathlib.Core.List.{List, [], _∷_, _++_, append-assoc, flatten}
+use mathlib.Core.List.{List, _++_, append-assoc, flatten}
 use mathlib.Core.Path.{_≡_, refl, sym, ap, _∙_}
 use Prim.Native.Nat.{ℕ, zero, suc, _+_}
 use native.Mathlib.Omega.{arith}

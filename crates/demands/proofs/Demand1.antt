@@ -24,7 +24,7 @@ use Rattle.symbols.proofs.Finding.{register-answers}
 use Rattle.orders.specs.Rules.{applyTo}
 use Rattle.book.specs.State.{Symbol, View, view, entryOf, symbolIn, liveOf, liveIn}
 use Rattle.book.specs.Step.{changeOf, dealOf, enacted, meeting, actAt, actOn, meant, stepOn, stepOf}
-use Rattle.book.specs.Registering.{started, registerOf, toldIn}
+use Rattle.book.specs.Registering.{started, registerOf}
 use Rattle.book.specs.Promises.{unchanging, staling, Steps}
 use Rattle.book.specs.Walk.{landing, stopping, moveBy, moveOf, walkOf, runOf, Moves}
 use Rattle.book.specs.Reached.{Reached}
@@ -37,10 +37,10 @@ use Rattle.book.proofs.Positions.{position-is-sum, stops-there}
 use Rattle.book.proofs.Reaching.{reached-wf, alike}
 use Rattle.book.proofs.Refusals.{stale-view}
 use Rattle.demands.specs.Reader.{Orders, Effect}
-use Rattle.page.specs.Printing.{laid, lineOf, told}
+use Rattle.page.specs.Printing.{told}
 use Rattle.page.specs.Printout.{closing}
 use Rattle.page.proofs.Cases.{bytes-beyond-stay, laid-beyond}
-use Rattle.page.proofs.Answers.{laid-answers, line-answers, laid-refused, line-refused, laying-answers, only-late}
+use Rattle.page.proofs.Answers.{laid-answers, line-answers, laid-refused, line-refused, laying-answers, only-late, laying-moves}
 use Rattle.demands.specs.Demand1.{OneOf, Answers, WireNumbers, PageNumbers, Pages, BookNumbers, Buffers, LeavesStale, Refusals, States, Questions, TooFew, no-size, cut, Stays, Passes, Positions, Moving, Demand1}
 use Rattle.demands.specs.Demand3.{StandsAt}
 use Rattle.demands.proofs.Demand3.{stands-acts}
@@ -299,6 +299,7 @@ module _ {b : Book} (p : Reached b) where
     };
     late = λ x e. x .late (only-late (reached-wf p) x e);
     beyond = λ x. x .beyond;
+    moves-on = λ x. laying-moves (reached-wf p) x;
   }
 
   refusals : Refusals b

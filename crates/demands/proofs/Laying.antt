@@ -6,7 +6,7 @@ use native.Mathlib.Omega.{arith}
 use native.Mathlib.Nat.{not-suc-le-zero}
 use lib.ListN.{length, take, drop, length-append}
 use lib.Seq.{take-at, drop-at, drop-drop}
-use Rattle.wire.specs.Outcome.{Outcome, done, refused}
+use Rattle.wire.specs.Outcome.{Outcome, done}
 use Rattle.wire.specs.Reading.{reachOf, reachBy}
 use Rattle.wire.proofs.Cases.{reached, reach-more}
 use Rattle.book.specs.Walk.{CompleteMessage, AllComplete, walkBy, walkFor, walkOf}

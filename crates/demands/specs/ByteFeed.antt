@@ -3,9 +3,8 @@ use Prim.Native.Nat.{ℕ}
 use mathlib.Core.List.{List, [], _∷_, _++_}
 use mathlib.Core.Option.{Option, none, some}
 use mathlib.Core.Path.{_≡_}
-use lib.ListN.{length}
 use Rattle.wire.specs.Outcome.{Outcome, done, refused}
-use Rattle.wire.specs.Reading.{msgType, reachOf, readOf}
+use Rattle.wire.specs.Reading.{msgType, readOf}
 use Rattle.wire.specs.declared.Message.{Message}
 use Rattle.feed.specs.Reader.{Act}
 use Rattle.feed.specs.Feed.{Item, Feed, start, _▷_, heard, lost}

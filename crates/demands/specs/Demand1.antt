@@ -25,6 +25,7 @@ use Rattle.book.specs.declared.Book.{Book}
 use Rattle.book.specs.declared.Done.{Done}
 use Rattle.book.specs.declared.walk.Moved.{Moved}
 use Rattle.book.specs.declared.walk.Ran.{Ran}
+use Rattle.columns.specs.Held.{room}
 use Rattle.page.specs.Printing.{laid, lineOf, told}
 use Rattle.page.specs.Printout.{closing}
 use Rattle.page.specs.Laying.{Lays}
@@ -84,6 +85,8 @@ pub record Pages (b : Book) : Type 0 where
       → (r ≡ record { book = b; at = at; place = place; count = 0; answer = 14 }) × (after ≡ before)
   -- and whatever it answers, no byte beyond the count changes
   pub beyond : {stream before after : List ℕ} {at place second : ℕ} {r : Laid} → Lays b stream at place second before r after → drop (r .count) after ≡ drop (r .count) before
+  -- 15 comes of too small a buffer alone: with room for one text a laying has moved on
+  pub moves-on : {stream before after : List ℕ} {at place second : ℕ} {r : Laid} → Lays b stream at place second before r after → room ≤ length before → r .answer ≡ 15 → at < r .at
 
 -- the message at the position was read; its symbol becomes stale and loses its mark, and nothing else changes
 pub record LeavesStale (b : Book) (s : List ℕ) (at : ℕ) (r : Moved) : Type 0 where

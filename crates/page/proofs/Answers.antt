@@ -7,22 +7,19 @@ use Prim.Native.Nat.{ℕ, zero, suc, _≤_, _<_}
 use native.Mathlib.Omega.{arith}
 use borrow.Author.Tests.{ltb-true, ltb-false}
 use lib.Dec.{ltb}
-use lib.ListN.{length, drop}
+use lib.ListN.{length}
 use Rattle.wire.specs.Outcome.{refused, numberOf}
-use Rattle.wire.specs.Message.{typeOf, hasBadField}
 use Rattle.wire.specs.declared.Message.{Message}
-use Rattle.wire.proofs.Answers.{reach-refuses}
 use Rattle.wire.proofs.Cases.{done-is-not-refused}
 use Rattle.places.specs.Places.{among}
 use Rattle.symbols.specs.declared.registering.Listing.{Listing}
 use Rattle.book.specs.State.{view, Wf}
-use Rattle.book.specs.Walk.{walkOf}
 use Rattle.book.specs.declared.Book.{Book}
-use Rattle.book.proofs.Positions.{stops-there}
-use Rattle.page.specs.Printing.{hasNoLine, lastSecond, laidIf, laid, lineBy, lineOf}
-use Rattle.page.specs.Laying.{layOf, Lays}
+use Rattle.columns.specs.Held.{room}
+use Rattle.page.specs.Printing.{lastSecond, laidIf, laid, lineBy, lineOf}
+use Rattle.page.specs.Laying.{Lays}
 use Rattle.page.specs.declared.laying.Laid.{Laid}
-use Rattle.page.proofs.Passing.{laying-ends}
+use Rattle.page.proofs.Passing.{lay-moves, laying-ends}
 
 -- ---- a line: 0, 3, 4, 5, 14 and 15; the end: 0 and 15
 laid-if-answers : (short : Bool) (line out : List ℕ) → among (numberOf (laidIf short line out .outcome)) (0 ∷ 15 ∷ []) ≡ true
@@ -99,3 +96,13 @@ module _ {b : Book} {stream : List ℕ} {from place second : ℕ} {before : List
       go : (late : Bool) → ltb lastSecond second ≡ late → lastSecond < second
       go true q = ltb-true lastSecond second q
       go false q = absurd (in-the-day (ltb-false lastSecond second q) .1 e)
+
+  -- with room for one text, 15 has moved on
+  pub laying-moves : room ≤ length before → r .answer ≡ 15 → from < r .at
+  laying-moves fits e = go (ltb lastSecond second) refl
+    where
+      go : (late : Bool) → ltb lastSecond second ≡ late → from < r .at
+      go true q = absurd (omega (arith, e, ap (λ (x : Laid). x .answer) (lays .late (ltb-true lastSecond second q) .0)))
+      go false q =
+          let o = lays .obeys (ltb-false lastSecond second q) w in
+          rw (o .at) (lay-moves second (length before) (view b) stream from place fits (sym (o .answer) ∙ e))

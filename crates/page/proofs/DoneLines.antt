@@ -5,7 +5,7 @@ use mathlib.Core.Option.{Option, none, some, Option·map}
 use mathlib.Core.Path.{_≡_, refl, sym, ap, _∙_}
 use Prim.Native.Nat.{ℕ, _≤_}
 use native.Mathlib.Omega.{arith}
-use lib.ListN.{length, take, drop}
+use lib.ListN.{take, drop}
 use Rattle.wire.specs.Outcome.{Outcome, done}
 use Rattle.wire.specs.Reading.{reachOf, readOf}
 use Rattle.wire.specs.Message.{typeOf, indexIn}

@@ -16,7 +16,7 @@ use Rattle.wire.proofs.Answers.{reach-refuses}
 use Rattle.wire.proofs.Cases.{reached}
 use Rattle.book.specs.State.{View, view, Wf}
 use Rattle.book.specs.Step.{stepOf}
-use Rattle.book.specs.Walk.{CompleteMessage, AllComplete, walkOf, stepsOf}
+use Rattle.book.specs.Walk.{AllComplete, walkOf, stepsOf}
 use Rattle.book.specs.declared.Book.{Book}
 use Rattle.book.proofs.Positions.{stops-there}
 use Rattle.book.proofs.Streams.{every-stream}

@@ -1,27 +1,26 @@
 -- A laying has laid some messages of the walk and has the rest to go: what is left of it from here comes to what all of it does.
 use mathlib.Core.Bool.{true, false, true≢false, false≢true}
-use mathlib.Core.List.{List, [], _∷_, _++_, append-assoc}
-use mathlib.Core.Path.{_≡_, refl, sym, ap, _∙_, subst}
+use mathlib.Core.List.{List, [], _++_}
+use mathlib.Core.Path.{_≡_, refl, sym, ap, _∙_}
 use Prim.Native.Nat.{ℕ, zero, suc, _+_, _-_, _<_, _≤_}
 use native.Mathlib.Nat.{not-suc-le-zero, add-sub-cancel-left}
 use native.Mathlib.Omega.{arith}
 use borrow.Author.Tests.{lt-ltb, le-ltb}
-use lib.ListN.{length, take, drop, length-append, length-drop}
-use lib.Seq.{take-at, drop-at, drop-drop, drop-append-seam, length-take-le}
+use lib.ListN.{length, take, drop, length-append}
+use lib.Seq.{take-at, drop-at, drop-drop, length-take-le}
 use Rattle.wire.specs.Outcome.{Outcome, done, refused, numberOf}
 use Rattle.wire.specs.Reading.{reachOf, readOf}
 use Rattle.wire.proofs.Cases.{reached}
-use Rattle.symbols.specs.Registering.{Next}
-use Rattle.book.specs.State.{Symbol, view, Wf}
+use Rattle.book.specs.State.{view, Wf}
 use Rattle.book.specs.Step.{stepOf}
 use Rattle.book.specs.Walk.{landing, stopping, moveBy, moveOf, walkFor, walkOf, Moves}
 use Rattle.book.specs.declared.Book.{Book}
 use Rattle.book.specs.declared.walk.Moved.{Moved}
-use Rattle.book.proofs.Walking.{move-within, goes-on}
+use Rattle.book.proofs.Walking.{move-within}
 use Rattle.columns.specs.Held.{room}
 use Rattle.page.specs.Printing.{lastSecond, Appends}
 use Rattle.page.specs.Printout.{passedText, nextPlace}
-use Rattle.page.specs.Laying.{Sheet, more, Laying, ended, layFrom, layOf, Sets, Lays}
+use Rattle.page.specs.Laying.{Sheet, more, Laying, ended, layFrom, layOf, Lays}
 use Rattle.page.specs.declared.laying.Laid.{Laid}
 
 abbrev sheetOf : Book → ℕ → ℕ → List ℕ → Sheet

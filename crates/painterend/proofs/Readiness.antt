@@ -1,14 +1,14 @@
 -- A part that is full moves on, so that there is always room to read more; what was left stands at the front of the next part.
-use mathlib.Core.Bool.{Bool, true, false, true≢false, false≢true}
+use mathlib.Core.Bool.{Bool, true, false, true≢false}
 use mathlib.Core.List.{List, _++_, flatten}
 use mathlib.Core.Logic.{_⊎_, inl, inr, ⊎-elim, _≢_}
 use mathlib.Core.Path.{_≡_, refl, sym, ap, _∙_, subst}
-use Prim.Native.Nat.{ℕ, _+_, _-_, _≤_, _<_, min}
+use Prim.Native.Nat.{ℕ, _+_, _-_, _≤_, _<_}
 use native.Mathlib.Omega.{arith}
 use borrow.Author.Tests.{ltb-true, ltb-false, eqb-true, eqb-false}
 use lib.Dec.{ltb, eqb}
 use lib.IntN.{ℤ, pos, negsuc}
-use lib.ListN.{length, take, drop, getD, length-append, length-take, length-drop, List·getD-eq-default}
+use lib.ListN.{length, take, drop, getD, length-append, length-take, List·getD-eq-default}
 use lib.Seq.{slice, take-take, getD-take, length-take-le, length-slice, take-at}
 use Rattle.io.specs.Counts.{clamped}
 use Rattle.wire.specs.Outcome.{refused}
@@ -17,7 +17,7 @@ use Rattle.wire.specs.Writing.{Write, countOf}
 use Rattle.wire.specs.RoundTrip.{Bytes}
 use Rattle.wire.proofs.Answers.{reach-refuses}
 use Rattle.book.specs.State.{view}
-use Rattle.book.specs.Walk.{Walk, walkOf}
+use Rattle.book.specs.Walk.{Walk}
 use Rattle.columns.specs.Held.{room}
 use Rattle.page.specs.Printing.{printedAs, printed, laid}
 use Rattle.page.specs.Laying.{layOf, Lays}
@@ -26,12 +26,11 @@ use Rattle.page.proofs.Cases.{laid-fits}
 use Rattle.page.specs.declared.laying.Laid.{Laid}
 use Rattle.page.proofs.Passing.{LaysMessages, lays-passes}
 use Rattle.parts.specs.Carry.{Carry, carried, carryOf}
-use Rattle.parts.specs.Parts.{partRoom}
 use Rattle.parts.proofs.Carrying.{carry-within}
 use Rattle.parts.proofs.FullParts.{full-part-moves}
 use Rattle.parts.proofs.Walks.{walk-stops}
 use Rattle.painterend.specs.Program.{second}
-use Rattle.painterend.specs.Turn.{left, awaiting, Failed, Brings, Given, Ready, Interrupted, LaysPart, Ends, Turns, interrupted, lays-part, ends, Turn, LaysFilled, Unread, Heeds}
+use Rattle.painterend.specs.Turn.{left, awaiting, Brings, Given, Ready, Ends, interrupted, lays-part, ends, Turn, LaysFilled, Unread, Heeds}
 use Rattle.painterend.specs.declared.turns.State.{State}
 use Rattle.painterend.specs.declared.turns.Filled.{Filled}
 

@@ -1,11 +1,11 @@
 -- Each turn passes messages that stand behind those passed before, so in the end all of the file was passed once, and the texts laid are the printout.
 use mathlib.Core.Bool.{Bool, true, false, true≢false}
 use mathlib.Core.List.{List, [], _++_, append-assoc, append-nil, flatten}
-use mathlib.Core.Logic.{_⊎_, inl, inr, ⊎-elim, _≢_}
+use mathlib.Core.Logic.{_⊎_, inl, ⊎-elim, _≢_}
 use mathlib.Core.Path.{_≡_, refl, sym, ap, _∙_, subst}
 use Prim.Native.Nat.{ℕ}
 use native.Mathlib.Omega.{arith}
-use lib.ListN.{length, take, drop, take-append-drop}
+use lib.ListN.{length, take, take-append-drop}
 use Rattle.wire.specs.Outcome.{refused}
 use Rattle.wire.specs.Reading.{reachOf}
 use Rattle.wire.proofs.Cases.{reach-short}
@@ -13,8 +13,8 @@ use Rattle.book.specs.State.{View, view, Wf}
 use Rattle.book.specs.declared.Book.{Book}
 use Rattle.book.specs.Walk.{Walk, AllComplete, walkOf, stepsOf}
 use Rattle.book.proofs.Walking.{steps-join}
-use Rattle.page.specs.Printout.{textsOf, closing, printedOf, printoutOf}
-use Rattle.page.proofs.Passing.{placeAfter, places-join, texts-join, flatten-join, complete-join, LaysMessages, lays-passes}
+use Rattle.page.specs.Printout.{textsOf, closing, printedOf}
+use Rattle.page.proofs.Passing.{placeAfter, places-join, texts-join, flatten-join, complete-join, lays-passes}
 use Rattle.parts.specs.Parts.{partRoom, walkParts}
 use Rattle.parts.proofs.Walks.{walk-stops, walk-behind}
 use Rattle.parts.proofs.Cuts.{small-ends-the-file, cuts-do-not-matter}

@@ -7,17 +7,18 @@ use Prim.Native.Nat.{ℕ, _+_, _<_, _≤_}
 use native.Mathlib.Omega.{arith}
 use borrow.Author.Tests.{lt-ltb, le-ltb, ltb-false, eqb-true}
 use lib.Dec.{ltb, eqb}
-use lib.ListN.{length, getD, set, replicate}
+use lib.ListN.{length, getD, take, set, replicate}
 use Rattle.places.specs.Places.{symbols, firstWhere, one, count}
 use Rattle.places.proofs.Searching.{first-passes, none-counted}
 use Rattle.places.proofs.Sums.{sum-set}
 use Rattle.symbols.specs.State.{nameBytes, paddedName, Entry, hasIndex, isVacant, placeAt, entryIn, entries, itself, placeOf, foundIn, vacancyOf, nobody}
-use Rattle.symbols.specs.Registering.{byteBad, nameBad, mostScale, registered, toldOf}
+use Rattle.symbols.specs.Registering.{byteBad, nameBad, mostScale, newEntry, registered, toldOf}
 use Rattle.symbols.specs.Promises.{Registers}
 use Rattle.symbols.specs.declared.Place.{Place}
 use Rattle.symbols.specs.declared.Symbols.{Symbols}
 use Rattle.symbols.specs.declared.registering.Entered.{Entered}
 use Rattle.symbols.proofs.Finding.{is-none}
+use Rattle.symbols.proofs.Padding.{take-padded}
 use Rattle.symbols.proofs.Entries.{length-entries, nobody-there, entry-past, entry-there, withPlace, entries-set, used-there}
 
 -- a good name is not too long
@@ -92,6 +93,11 @@ module _ (b : Symbols) (index : ℕ) where
   pub told-at : (k : ℕ) → k ≡ placeOf itself index (entries b) → k < symbols → record { answer = 0; name = placeAt b k .name; len = placeAt b k .len; scale = placeAt b k .scale } ≡ toldOf (foundIn itself index (entries b))
   unfolding toldOf foundIn
   told-at k is h = sym (ap toldOf (ap (λ (n : ℕ). getD (entries b) n none) (sym is) ∙ entry-there b k h (used-there b index k is h)))
+
+-- a new symbol is told by the name that was registered, to its length
+pub told-by-its-name : (index : ℕ) (name : List ℕ) (scale : ℕ) → nameBad name ≡ false → take (toldOf (some (newEntry index name scale)) .len) (toldOf (some (newEntry index name scale)) .name) ≡ name
+unfolding toldOf
+told-by-its-name index name scale good = take-padded name (name-short name good)
 
 -- ---- a good symbol is taken into new symbols: there is such a result
 pub record SomeEntered (index : ℕ) (name : List ℕ) (scale : ℕ) : Type 0 where

@@ -13,7 +13,7 @@ use Rattle.places.proofs.Shelves.{getD-replicated}
 use Rattle.places.proofs.Tables.{length-tabulate, getD-tabulate, is-tabulated}
 use Rattle.symbols.specs.State.{nameBytes, paddedName}
 
-pub length-padded : (name : List ℕ) → length (paddedName name) ≡ nameBytes
+length-padded : (name : List ℕ) → length (paddedName name) ≡ nameBytes
 unfolding paddedName
 length-padded name = length-tabulate nameBytes _
 

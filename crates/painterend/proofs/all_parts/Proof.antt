@@ -1,7 +1,6 @@
 -- The turns fall; each one is a turn of a session, and leaves the next one ready.
 use mathlib.Core.Bool.{true}
 use mathlib.Core.Path.{_≡_}
-use native.Mathlib.Omega.{arith}
 use lib.ListN.{length}
 use Rattle.parts.specs.Parts.{partRoom}
 use Rattle.painterend.specs.Turn.{Ready}

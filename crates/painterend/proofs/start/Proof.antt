@@ -1,6 +1,5 @@
 -- A new state is registered into, by the promise of registering.
 use mathlib.Core.Path.{ap, _∙_}
-use Rattle.symbols.specs.Registering.{Next}
 use Rattle.book.specs.State.{View}
 use Rattle.book.specs.Registering.{registerOf}
 use Rattle.painterend.specs.Program.{index, name, scale, startView}

@@ -4,7 +4,7 @@ use Prim.Native.Nat.{_≤_, _<_, _-_}
 use native.Mathlib.Omega.{arith}
 use denote.Ref.{now}
 use lib.ListN.{length}
-use Rattle.columns.specs.Held.{room, held}
+use Rattle.columns.specs.Held.{held}
 use Rattle.columns.proofs.Holding.{held-within}
 use Rattle.book.proofs.Walking.{goes-on}
 use Rattle.page.proofs.Sheets.{Rest, rest-all, too-late, rest-stops, rest-full, rest-on}

@@ -3,7 +3,7 @@ use mathlib.Core.Path.{_≡_, ap, sym, _∙_}
 use mathlib.Core.Bool.{Bool}
 use denote.Ref.{now}
 use Rattle.wire.specs.Outcome.{done}
-use Rattle.wire.specs.Reading.{Read, readOf, answeredAs}
+use Rattle.wire.specs.Reading.{Read, answeredAs}
 use Rattle.wire.specs.Message.{typeOf}
 use Rattle.wire.specs.declared.Answer.{Answer}
 use Rattle.wire.specs.declared.Message.{Message}

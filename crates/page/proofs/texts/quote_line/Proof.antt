@@ -1,7 +1,7 @@
 -- By the answer: the number that refuses the quote, or the columns of both levels.
 use Rattle.columns.specs.Columns.{rendered, further}
 use Rattle.page.specs.Printout.{levelColumns}
-use mathlib.Core.Path.{sym, _∙_, subst}
+use mathlib.Core.Path.{sym, subst}
 use mathlib.Core.List.{List, _++_}
 use Prim.Native.Nat.{ℕ}
 use Rattle.columns.specs.Held.{Adds}

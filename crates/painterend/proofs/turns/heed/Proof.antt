@@ -1,5 +1,5 @@
 -- By what the read brought: each case is its piece's own promise.
-use mathlib.Core.Bool.{true≢false, false≢true}
+use mathlib.Core.Bool.{true≢false}
 use mathlib.Core.Path.{sym, _∙_}
 use borrow.Author.Needs.{needs}
 use Rattle.painterend.proofs.turns.heed.Statement.{statement}

@@ -1,8 +1,7 @@
 -- What is laid of a part leaves room to read more.
-use mathlib.Core.Path.{_≡_, sym}
+use mathlib.Core.Path.{sym}
 use native.Mathlib.Omega.{arith}
 use denote.Ref.{now}
-use lib.ListN.{length}
 use lib.Seq.{length-take-le}
 use Rattle.painterend.proofs.Readiness.{filled-laid}
 use borrow.Author.Needs.{needs}

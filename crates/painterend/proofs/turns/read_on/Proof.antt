@@ -1,6 +1,4 @@
 -- The bytes that are kept stand before what the read brought.
-use mathlib.Core.Path.{_≡_, _∙_}
-use native.Mathlib.Omega.{arith}
 use denote.Ref.{now}
 use Rattle.painterend.proofs.Readiness.{filled-within, turn-reads}
 use borrow.Author.Needs.{needs}

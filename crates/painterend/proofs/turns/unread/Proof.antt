@@ -1,5 +1,5 @@
 -- By the error: the read is made again, or the state has failed.
-use mathlib.Core.Bool.{true≢false, false≢true}
+use mathlib.Core.Bool.{true≢false}
 use mathlib.Core.Path.{sym, ap, _∙_}
 use Rattle.painterend.specs.declared.turns.State.{State}
 use borrow.Author.Needs.{needs}
