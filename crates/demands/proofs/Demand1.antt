@@ -17,11 +17,14 @@ use Rattle.wire.proofs.Cases.{done-is-not-refused, reached, reach-short, reach-
 use Rattle.wire.proofs.Refusing.{reach-refused, read-refused, reached-refused, write-refused, write-fills}
 use Rattle.feed.specs.Reader.{Fit, fits, misfit, no-room, ruled, Act, clearing, numbered, indexOf}
 use Rattle.places.specs.Places.{among}
-use Rattle.symbols.specs.State.{placeOf}
+use Rattle.symbols.specs.State.{Entry, entries, itself, placeOf}
+use Rattle.symbols.specs.Turns.{turnAnswer, turnAt}
 use Rattle.symbols.specs.Registering.{Next, toldOf}
 use Rattle.symbols.specs.declared.registering.Listing.{Listing}
 use Rattle.symbols.proofs.Finding.{register-answers}
 use Rattle.orders.specs.Rules.{applyTo}
+use Rattle.orders.specs.Promises.{fitNumber}
+use Rattle.orders.specs.declared.Fit as code
 use Rattle.book.specs.State.{Symbol, View, view, entryOf, symbolIn, liveOf, liveIn}
 use Rattle.book.specs.Step.{changeOf, dealOf, enacted, meeting, actAt, actOn, meant, stepOn, stepOf}
 use Rattle.book.specs.Registering.{started, registerOf}
@@ -41,7 +44,7 @@ use Rattle.page.specs.Printing.{told}
 use Rattle.page.specs.Printout.{closing}
 use Rattle.page.proofs.Cases.{bytes-beyond-stay, laid-beyond}
 use Rattle.page.proofs.Answers.{laid-answers, line-answers, laid-refused, line-refused, laying-answers, only-late, laying-moves}
-use Rattle.demands.specs.Demand1.{OneOf, Answers, WireNumbers, PageNumbers, Pages, BookNumbers, Buffers, LeavesStale, Refusals, States, Questions, TooFew, no-size, cut, Stays, Passes, Positions, Moving, Demand1}
+use Rattle.demands.specs.Demand1.{OneOf, Answers, WireNumbers, RoomNumbers, PageNumbers, Pages, Rooms, BookNumbers, Buffers, LeavesStale, Refusals, States, Questions, TooFew, no-size, cut, Stays, Passes, Positions, Moving, Demand1}
 use Rattle.demands.specs.Demand3.{StandsAt}
 use Rattle.demands.proofs.Demand3.{stands-acts}
 
@@ -252,12 +255,46 @@ module _ {b : Book} (p : Reached b) {s : List ℕ} {at : ℕ} {r : Moved} (m : M
       go (done n) e = passes n e
       go (refused n) e = absurd (unreached not more n e)
 
+-- ---- the rooms
+tell-numbers : (e : Option Entry) → OneOf (0 ∷ 5 ∷ []) (toldOf e .answer)
+unfolding toldOf among
+tell-numbers none = refl
+tell-numbers (some e) = refl
+
+turn-numbers : (e : Option Entry) (number : ℕ) → OneOf (0 ∷ 5 ∷ 6 ∷ 7 ∷ 8 ∷ []) (turnAt e number)
+unfolding turnAt ruled among
+turn-numbers none number = refl
+turn-numbers (some e) number = go (e .standing .stale) (ltb number (e .standing .expected)) (ltb (e .standing .expected) number)
+  where
+    go : (stale below above : Bool) → OneOf (0 ∷ 5 ∷ 6 ∷ 7 ∷ 8 ∷ []) (turnAnswer stale below above)
+    go true below above = refl
+    go false true above = refl
+    go false false true = refl
+    go false false false = refl
+
+fit-numbers : (f : code.Fit) → OneOf (0 ∷ 9 ∷ 10 ∷ []) (fitNumber f)
+unfolding among
+fit-numbers code.Fit.Fits = refl
+fit-numbers code.Fit.Misfit = refl
+fit-numbers code.Fit.NoRoom = refl
+
 -- ---- DEMAND 1
 module _ {b : Book} (p : Reached b) where
   registering-number : {r : Done} (index : ℕ) (name : List ℕ) (scale : ℕ) → Steps b (registerOf (view b) index name scale) r → Answers (0 ∷ 11 ∷ 12 ∷ 13 ∷ []) (registerOf (view b) index name scale .answer) (r .answer)
   registering-number index name scale m =
       let number = m .obeys (reached-wf p) .answer in
       record { one-of = rw number (register-answers entryOf started (view b) index name scale); by-rule = number }
+
+  room-numbers : RoomNumbers
+  room-numbers = record {
+    registering = λ {b = c} index name scale m. rw (m .answer) (register-answers itself itself (entries c) index name scale);
+    telling = tell-numbers;
+    turning = turn-numbers;
+    fitting = fit-numbers;
+  }
+
+  rooms : Rooms
+  rooms = record { registering = λ index name scale m. m .kept; changing = λ k m. m .kept; dealing = λ k m. m .kept }
 
   wire-numbers : WireNumbers
   wire-numbers = record { reaching = reach-numbers; reading = read-numbers; writing = write-numbers }
@@ -339,10 +376,12 @@ module _ {b : Book} (p : Reached b) where
   pub demand-1-holds : Demand1 b
   demand-1-holds = record {
     wire-numbers = wire-numbers;
+    room-numbers = room-numbers;
     book-numbers = book-numbers;
     page-numbers = page-numbers;
     buffers = buffers;
     pages = pages;
+    rooms = rooms;
     refusals = refusals;
     states = states;
     questions = questions;

@@ -3,6 +3,7 @@ use Prim.Native.Nat.{ℕ, _+_, _≤_, _<_}
 use mathlib.Core.Bool.{true, false}
 use mathlib.Core.List.{List, [], _∷_}
 use mathlib.Core.Logic.{_≢_}
+use mathlib.Core.Option.{Option}
 use mathlib.Core.Path.{_≡_}
 use lib.ListN.{length, drop, replicate}
 use Rattle.wire.specs.Outcome.{done, refused, numberOf}
@@ -12,7 +13,21 @@ use Rattle.wire.specs.Writing.{Write, countOf, Fills, writeOf}
 use Rattle.wire.specs.declared.Message.{Message}
 use Rattle.feed.specs.Reader.{indexOf}
 use Rattle.places.specs.Places.{among, sumBy}
-use Rattle.symbols.specs.State.{nameBytes}
+use Rattle.symbols.specs.State.{nameBytes, Entry}
+use Rattle.symbols.specs.Registering.{toldOf}
+use Rattle.symbols.specs.Turns.{turnAt}
+use Rattle.symbols.specs.Promises.{Registers}
+use Rattle.symbols.specs.declared.Symbols.{Symbols}
+use Rattle.symbols.specs.declared.registering.Entered.{Entered}
+use Rattle.orders.specs.Promises.{fitNumber, Changes}
+use Rattle.orders.specs.declared.Orders.{Orders}
+use Rattle.orders.specs.declared.Fit.{Fit}
+use Rattle.orders.specs.declared.Change.{Change}
+use Rattle.orders.specs.declared.Changed.{Changed}
+use Rattle.record.specs.Promises.{Deals}
+use Rattle.record.specs.declared.Record.{Record}
+use Rattle.record.specs.declared.Deal.{Deal}
+use Rattle.record.specs.declared.Dealt.{Dealt}
 use Rattle.symbols.specs.declared.registering.Listing.{Listing}
 use Rattle.book.specs.State.{view, liveIn}
 use Rattle.book.specs.Promises.{BecomesStale, Steps}
@@ -54,6 +69,13 @@ pub record BookNumbers (b : Book) : Type 0 where
   pub quoting : (index : ℕ) → OneOf (0 ∷ 5 ∷ 8 ∷ []) (quoteIn b index .answer)
   pub summing : (index : ℕ) → OneOf (0 ∷ 5 ∷ []) (volumeOf index (view b) .answer)
   pub telling : {r : Listing} (index : ℕ) → r ≡ toldIn index (view b) → OneOf (0 ∷ 5 ∷ []) (r .answer)
+
+-- the rooms: registering, what is told, whether a number is in its turn, and whether a change fits
+pub record RoomNumbers : Type 0 where
+  pub registering : {b : Symbols} {r : Entered} (index : ℕ) (name : List ℕ) (scale : ℕ) → Registers b index name scale r → OneOf (0 ∷ 11 ∷ 12 ∷ 13 ∷ []) (r .answer)
+  pub telling : (e : Option Entry) → OneOf (0 ∷ 5 ∷ []) (toldOf e .answer)
+  pub turning : (e : Option Entry) (number : ℕ) → OneOf (0 ∷ 5 ∷ 6 ∷ 7 ∷ 8 ∷ []) (turnAt e number)
+  pub fitting : (f : Fit) → OneOf (0 ∷ 9 ∷ 10 ∷ []) (fitNumber f)
 
 -- `page`: a line, a laying, and the end
 pub record PageNumbers (b : Book) : Type 0 where
@@ -104,6 +126,12 @@ pub record Refusals (b : Book) : Type 0 where
   pub made-stale : {s : List ℕ} {at : ℕ} {r : Moved} → Moves b s at r → OneOf (7 ∷ 9 ∷ 10 ∷ []) (r .answer) → LeavesStale b s at r
   -- so that none changes an order
   pub no-order-changes : {s : List ℕ} {at : ℕ} {r : Moved} → Moves b s at r → r .answer ≢ 0 → (index : ℕ) → liveIn index (view (r .book)) ≡ liveIn index (view b)
+
+-- in the rooms: what is refused hands back the symbols or the orders that came in, and where the mark goes the record
+pub record Rooms : Type 0 where
+  pub registering : {b : Symbols} {r : Entered} (index : ℕ) (name : List ℕ) (scale : ℕ) → Registers b index name scale r → r .answer ≢ 0 → r .symbols ≡ b
+  pub changing : {b : Orders} {c : Change} {r : Changed} (k : ℕ) → Changes b k c r → fitNumber (r .fit) ≢ 0 → r .orders ≡ b
+  pub dealing : {b : Record} {d : Deal} {r : Dealt} (k : ℕ) → Deals b k d r → r .lost ≡ true → r .trades ≡ b
 
 -- the same of a registering and of a run
 pub record States (b : Book) : Type 0 where
@@ -168,10 +196,12 @@ pub record Moving (b : Book) : Type 0 where
 -- DEMAND 1, of every state that the calls can be given
 pub record Demand1 (b : Book) : Type 0 where
   pub wire-numbers : WireNumbers
+  pub room-numbers : RoomNumbers
   pub book-numbers : BookNumbers b
   pub page-numbers : PageNumbers b
   pub buffers : Buffers
   pub pages : Pages b
+  pub rooms : Rooms
   pub refusals : Refusals b
   pub states : States b
   pub questions : Questions b

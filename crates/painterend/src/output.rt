@@ -15,32 +15,35 @@ pub(crate) fn written(out: &[u8], s: State) -> State
 {
     let l = s.laid;
     let n = l.count;
-    if put(&out[..n]) {
+    if put(&out[..n]) == n {
         return s;
     }
     os::fail(b"standard output");
     failing(l)
 }
 
-// Writes all of it, or answers false. A write that a signal interrupts is made again; one that takes nothing has failed.
-fn put(text: &[u8]) -> bool {
+// Writes all of it, and answers how many bytes were taken. A write that a signal interrupts is made again; one that takes nothing has failed.
+fn put(text: &[u8]) -> usize
+    ensures { λ r. ⌜ r ≤ length (now (text .entry)) ⌝ }
+{
     let mut at: usize = 0;
     let mut turns = u64::MAX;
     while at < text.len() {
-        let took = libc::write(STDOUT_FILENO, &text[at..]);
-        let n = io::count(took, &text[at..]);
+        let rest = &text[at..];
+        let took = libc::write(STDOUT_FILENO, rest);
+        let n = io::count(took, rest);
         if n == 0 {
             if !again(took) {
-                return false;
+                return at;
             }
         }
         at += n;
         if turns == 0 {
-            return false;
+            return at;
         }
         turns -= 1;
     }
-    true
+    at
 }
 
 // Was it a signal that stopped the write?

@@ -1,4 +1,4 @@
--- What is written goes on behind what was taken, and the turns fall.
+-- What is written goes on behind what was taken, which is within what is left, and the turns fall.
 use Prim.Native.Nat.{_≤_}
 use native.Mathlib.Omega.{arith}
 use lib.ListN.{length}
@@ -13,28 +13,19 @@ abbrev μ-loop : tie.MeasureT-loop
 μ-loop text at₀ turns₀ at turns = turns
 
 loop-holds : tie.Need-loop-holds Inv-loop μ-loop
-loop-holds c = omega arith
+loop-holds c = search needs
 
-sub-write : tie.Need-sub-write Inv-loop μ-loop
-sub-write c = search needs
+sub-rest : tie.Need-sub-rest Inv-loop μ-loop
+sub-rest c = search needs
 
-part-write-start : tie.Need-part-write-start Inv-loop μ-loop
-part-write-start c = search needs
+part-rest-start : tie.Need-part-rest-start Inv-loop μ-loop
+part-rest-start c = search needs
 
-part-write-end : tie.Need-part-write-end Inv-loop μ-loop
-part-write-end c = search needs
+part-rest-end : tie.Need-part-rest-end Inv-loop μ-loop
+part-rest-end c = search needs
 
 write-requires : tie.Need-write-requires Inv-loop μ-loop
 write-requires c κs = search needs
-
-sub-count : tie.Need-sub-count Inv-loop μ-loop
-sub-count c = search needs
-
-part-count-start : tie.Need-part-count-start Inv-loop μ-loop
-part-count-start c = search needs
-
-part-count-end : tie.Need-part-count-end Inv-loop μ-loop
-part-count-end c = search needs
 
 count-requires : tie.Need-count-requires Inv-loop μ-loop
 count-requires c κs = search needs
@@ -58,7 +49,7 @@ loop-less : tie.Need-loop-less Inv-loop μ-loop
 loop-less c = search needs
 
 loop-again : tie.Need-loop-again Inv-loop μ-loop
-loop-again c = search needs
+loop-again c = omega arith
 
 returns-3 : tie.Need-returns-3 Inv-loop μ-loop
 returns-3 c = search needs
@@ -70,13 +61,10 @@ put-spec =
     Inv-loop
     μ-loop
     loop-holds
-    sub-write
-    part-write-start
-    part-write-end
+    sub-rest
+    part-rest-start
+    part-rest-end
     write-requires
-    sub-count
-    part-count-start
-    part-count-end
     count-requires
     again-requires
     returns
