@@ -9,7 +9,7 @@ use borrow.Author.Tests.{ltb-true, ltb-false, eqb-true, eqb-false}
 use lib.Dec.{ltb, eqb}
 use lib.IntN.{ℤ, pos, negsuc}
 use lib.ListN.{length, take, drop, getD, length-append, length-take, List·getD-eq-default}
-use lib.Seq.{slice, take-take, getD-take, length-take-le, length-slice, take-at}
+use lib.Seq.{take-take, getD-take, length-take-le, length-slice, take-at}
 use Rattle.io.specs.Counts.{clamped}
 use Rattle.wire.specs.Outcome.{refused}
 use Rattle.wire.specs.Reading.{reachOf}
@@ -25,8 +25,7 @@ use Rattle.page.specs.declared.Printed.{Printed}
 use Rattle.page.proofs.Cases.{laid-fits}
 use Rattle.page.specs.declared.laying.Laid.{Laid}
 use Rattle.page.proofs.Passing.{LaysMessages, lays-passes}
-use Rattle.parts.specs.Carry.{Carry, carried, carryOf}
-use Rattle.parts.proofs.Carrying.{carry-within}
+use Rattle.parts.proofs.Opening.{Front}
 use Rattle.parts.proofs.FullParts.{full-part-moves}
 use Rattle.parts.proofs.Walks.{walk-stops}
 use Rattle.painterend.specs.Program.{second}
@@ -103,23 +102,6 @@ end-laid text before out p n short long e count =
     let bytes : out ≡ text ++ drop (length text) before = ap (λ (w : Write). w .out) whole in
     let size : n ≡ length text = count ∙ ap (λ (w : Write). countOf (w .outcome)) whole in
     (ap (take n) bytes ∙ take-at text (drop (length text) before) n (sym size), omega (arith, size, ap length bytes, length-append text (drop (length text) before)))
-
--- ---- carried to the front
-pub record Front (bytes : List ℕ) (n : ℕ) (buffer : List ℕ) : Type 0 where
-  pub long : length bytes ≡ n
-  pub shows : take n buffer ≡ bytes
-  pub within : n ≤ length buffer
-
-pub carried-front : (before : List ℕ) (from to n : ℕ) (after : List ℕ) → from ≤ to → to ≤ length before → length after ≡ length before → carried n after ≡ carryOf before from to → Front (slice from to before) n after
-carried-front before from to n after h k same e =
-    let c = e ∙ carry-within before from to h k in
-    let count : n ≡ to - from = ap (λ (x : Carry). x .count) c in
-    let long : length (slice from to before) ≡ to - from = length-slice from to before k in
-    record {
-      long = long ∙ sym count;
-      shows = ap (λ (x : Carry). take (x .count) (x .buffer)) c ∙ take-at (slice from to before) (drop (to - from) before) (to - from) long;
-      within = omega (arith, count, k, same);
-    }
 
 -- where more is to be read, there is room for it
 pub room-to-read : (s : State) (before out : List ℕ) (n : ℕ) (after : List ℕ) → Ready s before out → s .laid .answer ≡ 1 → Front (left s before) n after → length after ≡ length before → n < length after

@@ -1,19 +1,26 @@
--- A walk stays within the bytes read, so from its position up to their end is a range of the buffer, and `carry` moves it to the front.
+-- `carry` moves a range of the buffer to its front, so what was left there opens the next part.
 use mathlib.Core.List.{List}
-use mathlib.Core.Path.{_≡_}
+use mathlib.Core.Path.{_≡_, sym, ap, _∙_}
 use Prim.Native.Nat.{ℕ, _-_, _≤_}
 use native.Mathlib.Omega.{arith}
 use lib.ListN.{length, take, drop}
-use lib.Seq.{slice, length-take-le, length-slice, take-at}
-use Rattle.book.specs.Walk.{walkOf}
-use Rattle.parts.specs.Carry.{carryOf, carriedOver}
-use Rattle.parts.specs.Parts.{leftOf}
+use lib.Seq.{slice, length-slice, take-at}
+use Rattle.parts.specs.Carry.{Carry, carried, carryOf}
 use Rattle.parts.proofs.Carrying.{carry-within}
-use Rattle.parts.proofs.Walks.{walk-within}
 
--- with `to` bytes in the buffer: carried from where the walk over them stopped, what it left opens the next part
-pub left-opens-the-next : (s : List ℕ) (to : ℕ) → to ≤ length s → carriedOver (carryOf s (walkOf (take to s) 0 .at) to) ≡ leftOf (take to s)
-left-opens-the-next s to h =
-    let from = walkOf (take to s) 0 .at in
-    let within : walkOf (take to s) 0 .at ≤ to = omega (arith, walk-within (take to s), length-take-le to s h) in
-    rw (carry-within s from to within h) (take-at (slice from to s) (drop (to - from) s) (to - from) (length-slice from to s h))
+-- so many bytes at the front of a buffer are these
+pub record Front (bytes : List ℕ) (n : ℕ) (buffer : List ℕ) : Type 0 where
+  pub long : length bytes ≡ n
+  pub shows : take n buffer ≡ bytes
+  pub within : n ≤ length buffer
+
+pub carried-front : (before : List ℕ) (from to n : ℕ) (after : List ℕ) → from ≤ to → to ≤ length before → length after ≡ length before → carried n after ≡ carryOf before from to → Front (slice from to before) n after
+carried-front before from to n after h k same e =
+    let c = e ∙ carry-within before from to h k in
+    let count : n ≡ to - from = ap (λ (x : Carry). x .count) c in
+    let long : length (slice from to before) ≡ to - from = length-slice from to before k in
+    record {
+      long = long ∙ sym count;
+      shows = ap (λ (x : Carry). take (x .count) (x .buffer)) c ∙ take-at (slice from to before) (drop (to - from) before) (to - from) long;
+      within = omega (arith, count, k, same);
+    }

@@ -1,7 +1,7 @@
 -- What a walk finds hangs on the bytes from its position on, and not on where they stand, so it goes one message at a time over what is left.
 use mathlib.Core.List.{List, [], _∷_, _++_, append-assoc, flatten}
 use mathlib.Core.Path.{_≡_, refl, sym, ap, _∙_, subst}
-use Prim.Native.Nat.{ℕ, zero, suc, _+_, _<_, _≤_}
+use Prim.Native.Nat.{ℕ, zero, suc, _+_, _<_}
 use native.Mathlib.Omega.{arith}
 use native.Mathlib.Nat.{not-suc-le-zero, zero-add, add-assoc}
 use lib.ListN.{length, take, drop, length-drop, length-append}
@@ -92,13 +92,6 @@ module _ (P : List ℕ → Type 0) (stops : (s : List ℕ) (a : ℕ) → reachOf
 
   pub by-messages : (s : List ℕ) → P s
   by-messages s = by-length (suc (length s)) s (omega arith)
-
--- a walk stays within its bytes
-pub walk-within : (s : List ℕ) → walkOf s 0 .at ≤ length s
-walk-within =
-    by-messages (λ s. walkOf s 0 .at ≤ length s)
-    (λ s a e. rw (walk-stops s a e) (omega arith))
-    (λ s n e ih. rw (walk-goes s n e) (omega (arith, ih, reached s n e .there, length-drop n s)))
 
 -- where it stops, what is left is why
 pub left-stops : (s : List ℕ) → reachOf (leftOf s) ≡ refused (walkOf s 0 .answer)

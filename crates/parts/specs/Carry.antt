@@ -2,7 +2,7 @@
 use Prim.Native.Nat.{ℕ, _-_}
 use mathlib.Core.List.{List, _++_}
 use mathlib.Core.Bool.{Bool, true, false}
-use lib.ListN.{length, take, drop}
+use lib.ListN.{length, drop}
 use lib.Dec.{ltb}
 use lib.Seq.{slice}
 
@@ -23,7 +23,3 @@ carryBy false false s from to = carried (to - from) (slice from to s ++ drop (to
 -- the bytes from `from` up to `to` at the front, and those behind them as they were
 unfoldable pub carryOf : List ℕ → ℕ → ℕ → Carry
 carryOf s from to = carryBy (ltb to from) (ltb (length s) to) s from to
-
--- the bytes that open the next part
-abbrev pub carriedOver : Carry → List ℕ
-carriedOver c = take (c .count) (c .buffer)

@@ -7,8 +7,9 @@ use native.Mathlib.Omega.{arith}
 use denote.Ref.{now}
 use lib.ListN.{length}
 use Rattle.parts.specs.Carry.{carried, carryOf}
+use Rattle.parts.proofs.Opening.{Front, carried-front}
 use Rattle.painterend.specs.Turn.{left}
-use Rattle.painterend.proofs.Readiness.{Front, carried-front, room-to-read, turn-of, turn-ends, turn-lays}
+use Rattle.painterend.proofs.Readiness.{room-to-read, turn-of, turn-ends, turn-lays}
 use borrow.Author.Needs.{needs}
 use Rattle.painterend.proofs.turns.turn.Statement.{statement}
 use Rattle.painterend.proofs.turns.turn.Tie as tie
