@@ -84,9 +84,6 @@ pub record Reached (s : State) (buffer : List ℕ) : Type 0 where
   pub text : List ℕ
   pub session : Session file text s buffer
 
-pub reached-ran : (s : State) (buffer : List ℕ) → Reached s buffer → Ran s
-reached-ran s buffer x = record { file = x .file; text = x .text; buffer = buffer; session = x .session }
-
 pub reached-start : (b : Book) (s : State) (buffer out : List ℕ) → Starts b → s ≡ awaiting b 0 0 → length buffer ≡ partRoom → length out ≡ partRoom → (s .«goes_on» ≡ true → Ready s buffer out) × Reached s buffer
 reached-start b s buffer out x e part sheet = (
   λ g. subst (λ (z : State). Ready z buffer out) (sym e)
@@ -130,6 +127,9 @@ whole-page (interrupted p t x) g h = absurd (true≢false (sym (ap (λ (s : Stat
 whole-page (lays-part p t x) g h = absurd (true≢false (sym (x .goes-on) ∙ g))
 whole-page (ends p t n e) g h = at-the-end (so-far p t) n e
 whole-page (fails p f) g h = absurd (true≢false (sym (f .failed) ∙ h))
+
+pub reached-ran : (s : State) (buffer : List ℕ) → Reached s buffer → Ran s
+reached-ran s buffer x = record { file = x .file; text = x .text; buffer = buffer; session = x .session; page = whole-page (x .session) }
 
 -- so it does not hang on the cuts: in whatever parts a file is read, the printout is that of the file as one slice
 pub printout-in-parts : (ps : List (List ℕ)) → printout (flatten ps) ≡ printedOf index second startView (walkParts ps)

@@ -1,12 +1,12 @@
 -- A run of the program: turns one after the other. What they read, one behind the other, is the file; what they laid, one behind the other, is what is printed.
-use mathlib.Core.Bool.{true}
+use mathlib.Core.Bool.{true, false}
 use mathlib.Core.List.{List, [], _++_}
 use mathlib.Core.Logic.{_≢_}
 use mathlib.Core.Path.{_≡_}
 use Prim.Native.Nat.{ℕ}
 use lib.ListN.{length, take, drop}
 use Rattle.book.specs.declared.Book.{Book}
-use Rattle.painterend.specs.Program.{Starts}
+use Rattle.painterend.specs.Program.{Starts, printout}
 use Rattle.painterend.specs.Turn.{left, awaiting, Failed, Interrupted, LaysPart, Ends}
 use Rattle.painterend.specs.declared.turns.State.{State}
 
@@ -27,9 +27,10 @@ pub data Session : List ℕ → List ℕ → State → List ℕ → Type 0 where
   ends : {file text before after out : List ℕ} {s r : State} → Session file text s before → s .«goes_on» ≡ true → s .laid .answer ≢ 15 → Ends (s .laid) r out → Session file (text ++ laidBy r out) r after
   fails : {file text before after : List ℕ} {s r : State} → Session file text s before → Failed r → Session file text r after
 
--- there was such a run up to this state
+-- there was such a run up to this state, and where it has ended and reported no error, what it laid is the printout of what it read
 pub record Ran (r : State) : Type 0 where
   pub file : List ℕ
   pub text : List ℕ
   pub buffer : List ℕ
   pub session : Session file text r buffer
+  pub page : r .«goes_on» ≡ false → r .failed ≡ false → text ≡ printout file
