@@ -23,7 +23,7 @@ const SCALE: u8 = 4;
 const PART: usize = 65536;
 
 // Room for a part, or for what is laid of one.
-fn room() -> [u8; PART]
+fn part_room() -> [u8; PART]
     ensures { λ r. ⌜ partRoom ≡ length r ⌝ }
 {
     [0; PART]
@@ -42,9 +42,9 @@ fn start() -> Book
 fn all_parts(fd: i32, path: &[u8]) -> State
     ensures { λ r. ⌜ Ran r ⌝ }
 {
-    let mut space = room();
+    let mut space = part_room();
     let buffer: &mut [u8] = &mut space;
-    let mut sheet = room();
+    let mut sheet = part_room();
     let out: &mut [u8] = &mut sheet;
     let mut s = reading(start(), 0, 0);
     let mut turns = u64::MAX;

@@ -15,14 +15,14 @@ Inv-loop fd path buffer₀ out₀ s₀ turns₀ buffer out s turns = (length buf
 abbrev μ-loop : tie.MeasureT-loop
 μ-loop fd path buffer₀ out₀ s₀ turns₀ buffer out s turns = turns
 
-room-requires : tie.Need-room-requires Inv-loop μ-loop
-room-requires c κs = search needs
+part-room-requires : tie.Need-part-room-requires Inv-loop μ-loop
+part-room-requires c κs = search needs
 
 slice-aggregate-buffer : tie.Need-slice-aggregate-buffer Inv-loop μ-loop
 slice-aggregate-buffer c = search needs
 
-room-requires-2 : tie.Need-room-requires-2 Inv-loop μ-loop
-room-requires-2 c κs = search needs
+part-room-requires-2 : tie.Need-part-room-requires-2 Inv-loop μ-loop
+part-room-requires-2 c κs = search needs
 
 slice-aggregate-out : tie.Need-slice-aggregate-out Inv-loop μ-loop
 slice-aggregate-out c = search needs
@@ -35,7 +35,7 @@ reading-requires c κs = search needs
 
 loop-holds : tie.Need-loop-holds Inv-loop μ-loop
 loop-holds c =
-    let x = reached-start (c .before .start .result) (c .reading .result) (c .before .before .before .before .before .room .result) (c .before .before .before .room2 .result) (c .before .start .ensures) (c .reading .ensures) (search needs) (search needs) in
+    let x = reached-start (c .before .start .result) (c .reading .result) (c .before .before .before .before .before .part-room .result) (c .before .before .before .part-room2 .result) (c .before .start .ensures) (c .reading .ensures) (search needs) (search needs) in
     (search needs, search needs, x .0, x .1)
 
 turn-requires : tie.Need-turn-requires Inv-loop μ-loop
@@ -67,9 +67,9 @@ all-parts-spec =
     (tie.spec
     Inv-loop
     μ-loop
-    room-requires
+    part-room-requires
     slice-aggregate-buffer
-    room-requires-2
+    part-room-requires-2
     slice-aggregate-out
     start-requires
     reading-requires
