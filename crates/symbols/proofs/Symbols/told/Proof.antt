@@ -9,7 +9,7 @@ place-of-requires : tie.Need-place-of-requires
 place-of-requires c κs = search needs
 
 returns : tie.Need-returns
-returns c = told-missing _ _ (omega (arith, c .before .place-of .ensures))
+returns c = told-missing (c .before .before .args .t1) (c .before .before .args .index) (omega (arith, c .before .place-of .ensures))
 
 mul-p : tie.Need-mul-p
 mul-p c = search needs
