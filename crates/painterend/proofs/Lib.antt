@@ -1,2 +1,2 @@
 pub mod Readiness
-pub mod Sessions
+pub mod Courses

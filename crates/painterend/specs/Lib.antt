@@ -1,3 +1,3 @@
 pub mod Program
 pub mod Turn
-pub mod Session
+pub mod Course

@@ -15,7 +15,7 @@ ghost use mathlib.Core.Path.{_≡_};
 ghost use lib.ListN.{length};
 ghost use Rattle.parts.specs.Parts.{partRoom};
 ghost use Rattle.painterend.specs.Program.{Starts};
-ghost use Rattle.painterend.specs.Session.{Ran};
+ghost use Rattle.painterend.specs.Course.{Ran};
 
 const SCALE: u8 = 4;
 

@@ -1,10 +1,10 @@
--- The turns fall; each one is a turn of a session, and leaves the next one ready.
+-- The turns fall; each one is a turn of a course, and leaves the next one ready.
 use mathlib.Core.Bool.{true}
 use mathlib.Core.Path.{_≡_}
 use lib.ListN.{length}
 use Rattle.parts.specs.Parts.{partRoom}
 use Rattle.painterend.specs.Turn.{Ready}
-use Rattle.painterend.proofs.Sessions.{Reached, reached-start, reached-turn, reached-ran}
+use Rattle.painterend.proofs.Courses.{Reached, reached-start, reached-turn, reached-ran}
 use borrow.Author.Needs.{needs}
 use Rattle.painterend.proofs.all_parts.Statement.{statement}
 use Rattle.painterend.proofs.all_parts.Tie as tie

@@ -21,7 +21,7 @@ use Rattle.parts.proofs.Cuts.{small-ends-the-file, cuts-do-not-matter}
 use Rattle.painterend.specs.Program.{index, second, startView, printout, Starts}
 use Rattle.painterend.specs.Turn as turn
 use Rattle.painterend.specs.Turn.{left, awaiting, Failed, Ready, Interrupted, LaysPart, Ends, Turns, Turn}
-use Rattle.painterend.specs.Session.{readBehind, laidBy, Session, begins, interrupted, lays-part, ends, fails, Ran}
+use Rattle.painterend.specs.Course.{readBehind, laidBy, Course, begins, interrupted, lays-part, ends, fails, Ran}
 use Rattle.painterend.specs.declared.turns.State.{State}
 
 -- ---- so far: the messages passed, then the bytes that are left, are what was read; the view, the place and the texts are those of the messages passed
@@ -71,41 +71,41 @@ after-a-laying {file} {text} {before} {after} {out} {s} {r} f x =
       why = p .why;
     }
 
-pub so-far : {file text : List ℕ} {s : State} {buffer : List ℕ} → Session file text s buffer → s .«goes_on» ≡ true → SoFar file text s buffer
+pub so-far : {file text : List ℕ} {s : State} {buffer : List ℕ} → Course file text s buffer → s .«goes_on» ≡ true → SoFar file text s buffer
 so-far (begins {buffer = buffer} s) g = at-the-start buffer s
 so-far (interrupted p h x) g = after-an-interrupt (so-far p h) x
 so-far (lays-part p h x) g = after-a-laying (so-far p h) x
 so-far (ends p h n e) g = absurd (true≢false (sym g ∙ e .over))
 so-far (fails p f) g = absurd (true≢false (sym g ∙ f .over))
 
--- ---- the loop: up to a state there was a session
+-- ---- the loop: up to a state there was a course
 pub record Reached (s : State) (buffer : List ℕ) : Type 0 where
   pub file : List ℕ
   pub text : List ℕ
-  pub session : Session file text s buffer
+  pub course : Course file text s buffer
 
 pub reached-start : (b : Book) (s : State) (buffer out : List ℕ) → Starts b → s ≡ awaiting b 0 0 → length buffer ≡ partRoom → length out ≡ partRoom → (s .«goes_on» ≡ true → Ready s buffer out) × Reached s buffer
 reached-start b s buffer out x e part sheet = (
   λ g. subst (λ (z : State). Ready z buffer out) (sym e)
       (record { given = record { sound = x .wf; part = part; sheet = omega (arith, sheet) }; range = omega arith; within = omega arith; room-left = λ o. omega (arith, part); why = inl refl }),
-  subst (λ (z : State). Reached z buffer) (sym e) (record { file = []; text = []; session = begins x }),
+  subst (λ (z : State). Reached z buffer) (sym e) (record { file = []; text = []; course = begins x }),
 )
 
 module _ (s : State) (before : List ℕ) (t : State) (after out : List ℕ) (r : State) where
   one-more : Reached s before → s .«goes_on» ≡ true → Turns (s .laid) (left s before) t after out → Reached t after
-  one-more x g (turn.interrupted y) = record { file = x .file; text = x .text; session = interrupted (x .session) g y }
-  one-more x g (turn.lays-part y) = record { file = x .file ++ readBehind (left s before) t after; text = x .text ++ laidBy t out; session = lays-part (x .session) g y }
-  one-more x g (turn.ends n y) = record { file = x .file; text = x .text ++ laidBy t out; session = ends (x .session) g n y }
+  one-more x g (turn.interrupted y) = record { file = x .file; text = x .text; course = interrupted (x .course) g y }
+  one-more x g (turn.lays-part y) = record { file = x .file ++ readBehind (left s before) t after; text = x .text ++ laidBy t out; course = lays-part (x .course) g y }
+  one-more x g (turn.ends n y) = record { file = x .file; text = x .text ++ laidBy t out; course = ends (x .course) g n y }
 
   turned : Reached s before → s .«goes_on» ≡ true → Turn (s .laid) (left s before) t after out → (failed : Bool) → t .failed ≡ failed → Reached t after
-  turned x g y true e = record { file = x .file; text = x .text; session = fails (x .session) (y .fails e) }
+  turned x g y true e = record { file = x .file; text = x .text; course = fails (x .course) (y .fails e) }
   turned x g y false e = one-more x g (y .turns e)
 
   pub reached-turn : Reached s before → s .«goes_on» ≡ true → Turn (s .laid) (left s before) t after out → (r ≡ t) ⊎ Failed r → (r .«goes_on» ≡ true → Ready r after out) × Reached r after
   reached-turn x g y w =
       let z = turned x g y (t .failed) refl in (
         λ h. ⊎-elim (λ e. subst (λ (q : State). Ready q after out) (sym e) (y .ready (sym (ap (λ (q : State). q .«goes_on») e) ∙ h))) (λ f. absurd (true≢false (sym h ∙ f .over))) w,
-        ⊎-elim (λ e. subst (λ (q : State). Reached q after) (sym e) z) (λ f. record { file = z .file; text = z .text; session = fails (z .session) f }) w,
+        ⊎-elim (λ e. subst (λ (q : State). Reached q after) (sym e) z) (λ f. record { file = z .file; text = z .text; course = fails (z .course) f }) w,
       )
 
 -- ---- the whole page: where a run came to its end and reported no error, what it laid is the printout of what it read
@@ -121,7 +121,7 @@ at-the-end {file} {text} {before} {out} {s} {r} f n e =
     ∙ ap (λ (v : View). textsOf second startView 0 (f .passed) ++ closing v index (s .laid .answer)) (f .views)
     ∙ sym (λ i. textsOf second startView 0 (messages i) ++ closing (stepsOf startView (messages i)) index (answer i))
 
-pub whole-page : {file text : List ℕ} {r : State} {buffer : List ℕ} → Session file text r buffer → r .«goes_on» ≡ false → r .failed ≡ false → text ≡ printout file
+pub whole-page : {file text : List ℕ} {r : State} {buffer : List ℕ} → Course file text r buffer → r .«goes_on» ≡ false → r .failed ≡ false → text ≡ printout file
 whole-page (begins s) g h = absurd (true≢false g)
 whole-page (interrupted p t x) g h = absurd (true≢false (sym (ap (λ (s : State). s .«goes_on») (x .same)) ∙ g))
 whole-page (lays-part p t x) g h = absurd (true≢false (sym (x .goes-on) ∙ g))
@@ -129,7 +129,7 @@ whole-page (ends p t n e) g h = at-the-end (so-far p t) n e
 whole-page (fails p f) g h = absurd (true≢false (sym (f .failed) ∙ h))
 
 pub reached-ran : (s : State) (buffer : List ℕ) → Reached s buffer → Ran s
-reached-ran s buffer x = record { file = x .file; text = x .text; buffer = buffer; session = x .session; page = whole-page (x .session) }
+reached-ran s buffer x = record { file = x .file; text = x .text; buffer = buffer; course = x .course; page = whole-page (x .course) }
 
 -- so it does not hang on the cuts: in whatever parts a file is read, the printout is that of the file as one slice
 pub printout-in-parts : (ps : List (List ℕ)) → printout (flatten ps) ≡ printedOf index second startView (walkParts ps)
