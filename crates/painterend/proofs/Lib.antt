@@ -1,2 +1,3 @@
 pub mod Readiness
 pub mod Courses
+pub mod Examples
