@@ -4,41 +4,80 @@
 #[derive(Clone, Copy, PartialEq, Eq, Debug)]
 pub enum Refusal {
     /// 1: fewer than four bytes are left, or fewer than Msg Size.
-    Cut = 1,
+    Cut,
     /// 2: Msg Size below 4, or not that of its known type.
-    Size = 2,
+    Size,
     /// 3: a type outside the table.
-    Type = 3,
-    /// 4: a bad field.
-    Field = 4,
+    Type,
+    /// 4: a bad field, and where the first one starts in its message: request M-111.
+    Field { offset: usize },
     /// 5: the symbol is not registered.
-    Symbol = 5,
+    Symbol,
     /// 6: the number is below the expected one.
-    Low = 6,
+    Low,
     /// 7: numbers are missing.
-    Gap = 7,
+    Gap,
     /// 8: the symbol is stale.
-    Stale = 8,
+    Stale,
     /// 9: the message does not fit the book.
-    Misfit = 9,
+    Misfit,
     /// 10: 64 orders are live.
-    Full = 10,
+    Full,
     /// 11: the index is registered already.
-    Taken = 11,
+    Taken,
     /// 12: eight symbols are registered.
-    NinthSymbol = 12,
+    NinthSymbol,
     /// 13: a price scale above 6, or a bad name.
-    Name = 13,
+    Name,
     /// 14: a second past the end of the day.
-    Second = 14,
+    Second,
     /// 15: the output has too little room.
-    Room = 15,
+    Room,
+}
+
+impl Refusal {
+    /// The number of document 01.
+    pub fn number(self) -> u8 {
+        match self {
+            Refusal::Cut => 1,
+            Refusal::Size => 2,
+            Refusal::Type => 3,
+            Refusal::Field { .. } => 4,
+            Refusal::Symbol => 5,
+            Refusal::Low => 6,
+            Refusal::Gap => 7,
+            Refusal::Stale => 8,
+            Refusal::Misfit => 9,
+            Refusal::Full => 10,
+            Refusal::Taken => 11,
+            Refusal::NinthSymbol => 12,
+            Refusal::Name => 13,
+            Refusal::Second => 14,
+            Refusal::Room => 15,
+        }
+    }
+
+    /// The field at the end of a printed line that only answer 4 has, the offset.
+    pub(crate) fn offset_field(self) -> String {
+        match self {
+            Refusal::Field { offset } => format!(",{offset}"),
+            _ => String::new(),
+        }
+    }
 }
 
 /// The number that a call answers.
 pub(crate) fn number<T>(result: &Result<T, Refusal>) -> u8 {
     match result {
         Ok(_) => 0,
-        Err(refusal) => *refusal as u8,
+        Err(refusal) => refusal.number(),
+    }
+}
+
+/// The field at the end of a call's printed line that only answer 4 has, the offset.
+pub(crate) fn offset_field<T>(result: &Result<T, Refusal>) -> String {
+    match result {
+        Ok(_) => String::new(),
+        Err(refusal) => refusal.offset_field(),
     }
 }

@@ -2,7 +2,7 @@
 
 use std::fmt::Write;
 
-use crate::answer::{number, Refusal};
+use crate::answer::{number, offset_field, Refusal};
 use crate::book::Level;
 use crate::cursor::{hex, Cursor};
 use crate::line::line;
@@ -51,17 +51,17 @@ fn call(reader: &mut Reader, cursor: &mut Cursor) -> Option<String> {
         b'S' => {
             let at = usize::from(cursor.u16()?);
             let (next, done) = reader.step(cursor.counted()?, at);
-            Some(format!("S,{},{next}", number(&done)))
+            Some(position_line('S', next, &done))
         }
         b'X' => {
             let at = usize::from(cursor.u16()?);
             let (end, stop) = reader.run(cursor.counted()?, at);
-            Some(format!("X,{},{end}", stop as u8))
+            Some(format!("X,{},{end}", stop.number()))
         }
         b'D' => {
             let at = usize::from(cursor.u16()?);
             let (next, message) = read(cursor.counted()?, at);
-            Some(format!("D,{},{next}", number(&message)))
+            Some(position_line('D', next, &message))
         }
         b'Q' => Some(quote_line(reader, cursor.u32()?)),
         b'V' => Some(volume_line(reader, cursor.u32()?)),
@@ -99,6 +99,11 @@ fn timed(bytes: &[u8], nanoseconds: u32) -> Result<Message, Refusal> {
     })
 }
 
+/// The answer of a step or a read, and the position after it.
+fn position_line(letter: char, next: usize, done: &Result<Message, Refusal>) -> String {
+    format!("{letter},{},{next}{}", number(done), offset_field(done))
+}
+
 /// The answer of a write or a line, or of the read before it.
 fn output_line(
     letter: char,
@@ -106,13 +111,12 @@ fn output_line(
     buffer: &[u8],
 ) -> String {
     match done {
-        Ok(done) => format!(
-            "{letter},{},{},{}",
-            number(&done),
-            done.unwrap_or(0),
-            hex(buffer)
-        ),
-        Err(refusal) => format!("{letter},{}", refusal as u8),
+        Ok(done) => {
+            let count = done.unwrap_or(0);
+            let offset = offset_field(&done);
+            format!("{letter},{},{count},{}{offset}", number(&done), hex(buffer))
+        }
+        Err(refusal) => format!("{letter},{}{}", refusal.number(), refusal.offset_field()),
     }
 }
 

@@ -1,4 +1,5 @@
-//! The small program: document 01, "What the bureau's reader does".
+//! The small program: document 01, "What the bureau's reader does", and the offset of a bad field
+//! in its refusals: request M-111.
 
 use std::io::{self, Read, Write};
 
@@ -37,7 +38,7 @@ pub fn painterend(input: &mut impl Read, output: &mut impl Write) -> io::Result<
         part.copy_within(at..filled, 0);
         filled -= at;
     };
-    writeln!(output, "E,{}", end as u8)?;
+    writeln!(output, "E,{}", end.number())?;
     print_quote(&reader, output)
 }
 
@@ -75,7 +76,8 @@ fn print_part(
             Err(refusal) if next == at => return Ok((at, refusal)),
             Err(refusal) => {
                 *place += 1;
-                writeln!(output, "R,{},{}", refusal as u8, place)?;
+                let offset = refusal.offset_field();
+                writeln!(output, "R,{},{place}{offset}", refusal.number())?;
             }
             Ok(message) => {
                 *place += 1;
@@ -111,7 +113,7 @@ fn print_quote(reader: &Reader, output: &mut impl Write) -> io::Result<()> {
             level_text(quote.bid),
             level_text(quote.ask)
         ),
-        Err(refusal) => writeln!(output, "Q,{}", refusal as u8),
+        Err(refusal) => writeln!(output, "Q,{}", refusal.number()),
     }
 }
 

@@ -2,6 +2,7 @@
 
 use std::io::{self, Read};
 
+use second::answer::Refusal;
 use second::line::{line_text, price_text};
 use second::make::feeds::{feed, FEED_KINDS};
 use second::make::random::Random;
@@ -39,12 +40,16 @@ fn of_one_slice(bytes: &[u8]) -> String {
         let (next, done) = reader.step(bytes, at);
         match done {
             Err(refusal) if next == at => {
-                page += &format!("E,{}\n", refusal as u8);
+                page += &format!("E,{}\n", refusal.number());
                 break;
+            }
+            Err(Refusal::Field { offset }) => {
+                place += 1;
+                page += &format!("R,4,{place},{offset}\n");
             }
             Err(refusal) => {
                 place += 1;
-                page += &format!("R,{},{place}\n", refusal as u8);
+                page += &format!("R,{},{place}\n", refusal.number());
             }
             Ok(message) => {
                 place += 1;
@@ -54,7 +59,7 @@ fn of_one_slice(bytes: &[u8]) -> String {
         at = next;
     }
     match reader.quote(7) {
-        Err(refusal) => page += &format!("Q,{}\n", refusal as u8),
+        Err(refusal) => page += &format!("Q,{}\n", refusal.number()),
         Ok(quote) => {
             page.push('Q');
             for level in [quote.bid, quote.ask] {

@@ -195,12 +195,12 @@ module _ (b : Book) (index next k : ℕ) (place : k ≡ placeOf itself index (en
       changes b _ _ _ (act-at b (clearing index next) k cleared-at f) refl (λ w. clears b k h (f .entry) (f .at) w next s a os c)
 
 -- ---- what reading answered
-pub refused-read : (v : View) (a : Answer) → OneOf (1 ∷ 2 ∷ 3 ∷ 4 ∷ []) (tagOf answers.the-type a) → stepOn v (answeredAs a) ≡ refusing v (numberOf (answeredAs a))
+pub refused-read : (v : View) (a : Answer) → OneOf (1 ∷ 2 ∷ 3 ∷ 4 ∷ []) (tagOf answers.the-type a) → stepOn v (answeredAs a .outcome) ≡ refusing v (numberOf (answeredAs a .outcome))
 refused-read v (Answer.Message m) h = absurd (miss (1 ∷ 2 ∷ 3 ∷ 4 ∷ []) 0 tt h)
 refused-read v Answer.Short h = refl
 refused-read v Answer.BadSize h = refl
 refused-read v Answer.BadType h = refl
-refused-read v Answer.BadField h = refl
+refused-read v (Answer.BadField n) h = refl
 
-pub read-acts : (v : View) (a : Answer) (m : Message) (x : Act Effect) → a ≡ Answer.Message m → x ≡ meant m → stepOn v (answeredAs a) ≡ actOn v x
-read-acts v a m x e f = rw (e, f)
+pub read-acts : (v : View) (a : Answer) (m : Message) → a ≡ Answer.Message m → (stepOn v (answeredAs a .outcome) ≡ actOn v (meant m)) × (answeredAs a .offset ≡ 0)
+read-acts v a m e = (rw e, rw e)

@@ -5,11 +5,12 @@ use mathlib.Core.Logic.{_≢_}
 use mathlib.Core.Option.{Option, none, some, Option·map}
 use mathlib.Core.Path.{_≡_, refl}
 use Prim.Native.Nat.{ℕ}
+use native.Mathlib.Omega.{arith}
 use lib.Dec.{ltb}
 use lib.ListN.{take}
 use Rattle.feed.specs.Reader.{Fit, fits, misfit, no-room, ruled, Act, clearing, numbered, indexOf}
-use Rattle.wire.specs.Outcome.{Outcome, done, refused}
-use Rattle.wire.specs.Reading.{reachOf, readOf}
+use Rattle.wire.specs.Outcome.{Outcome, done, refused, numberOf}
+use Rattle.wire.specs.Reading.{Read, reachOf, readOf}
 use Rattle.wire.specs.declared.Message.{Message}
 use Rattle.wire.proofs.Refusing.{reached-refused}
 use Rattle.places.specs.Places.{among}
@@ -24,12 +25,9 @@ use Rattle.book.specs.Registering.{toldIn}
 use Rattle.book.specs.Quote.{noQuote, quotedIf, quoted, quoteOf, volumeIn, volumeOf}
 use Rattle.book.specs.declared.acts.Effect.{Effect}
 
--- ---- a message that is all there: what holds of each number but 1 holds of its answer
-pub record Each (P : ℕ → Type 0) : Type 0 where
+-- ---- a message that was read: what holds of 0 and 5 to 10 holds of its answer
+pub record Acts (P : ℕ → Type 0) : Type 0 where
   pub done : P 0
-  pub size : P 2
-  pub type : P 3
-  pub field : P 4
   pub symbol : P 5
   pub below : P 6
   pub above : P 7
@@ -37,7 +35,7 @@ pub record Each (P : ℕ → Type 0) : Type 0 where
   pub fit : P 9
   pub room : P 10
 
-module _ (P : ℕ → Type 0) (each : Each P) where
+module _ (P : ℕ → Type 0) (each : Acts P) where
   ruled-answers : (s : Symbol) (stale below above : Bool) (x : Fit (List Order)) (d : Deal) → P (enacted s d (ruled stale below above x) .answer)
   unfolding enacted ruled
   ruled-answers s true below above x d = each .stale
@@ -52,7 +50,7 @@ module _ (P : ℕ → Type 0) (each : Each P) where
   meeting-answers s (clearing index next) = each .done
   meeting-answers s (numbered index n e) = ruled-answers s (s .entry .standing .stale) (ltb n (s .entry .standing .expected)) (ltb (s .entry .standing .expected) n) (applyTo (s .orders) (changeOf e)) (dealOf e)
 
-  act-answers : (v : View) (a : Act Effect) → P (actOn v a .answer)
+  pub act-answers : (v : View) (a : Act Effect) → P (actOn v a .answer)
   unfolding actOn
   act-answers v a = go (symbolIn (indexOf a) v)
     where
@@ -60,13 +58,32 @@ module _ (P : ℕ → Type 0) (each : Each P) where
       go none = each .symbol
       go (some s) = meeting-answers s a
 
-  pub step-answers : (v : View) (s : List ℕ) (n : ℕ) → reachOf s ≡ done n → P (stepOf v (readOf (take n s)) .answer)
-  unfolding stepOf
-  step-answers v s n e = go (readOf (take n s) .outcome) (reached-refused P (each .size) (each .type) (each .field) s n e)
-    where
-      go : (x : Outcome Message) → ((k : ℕ) → x ≡ refused k → P k) → P (stepOn v x .answer)
-      go (done m) h = act-answers v (meant m)
-      go (refused k) h = h k refl
+-- one that is all there: what holds of 2, 3 and 4 too
+pub record Each (P : ℕ → Type 0) : Type 0 where
+  pub acts : Acts P
+  pub size : P 2
+  pub type : P 3
+  pub field : P 4
+
+pub step-answers : (P : ℕ → Type 0) → Each P → (v : View) (s : List ℕ) (n : ℕ) → reachOf s ≡ done n → P (stepOf v (readOf (take n s)) .answer)
+unfolding stepOf
+step-answers P each v s n e = go (readOf (take n s) .outcome) (reached-refused P (each .size) (each .type) (each .field) s n e)
+  where
+    go : (x : Outcome Message) → ((k : ℕ) → x ≡ refused k → P k) → P (stepOn v x .answer)
+    go (done m) h = act-answers P (each .acts) v (meant m)
+    go (refused k) h = h k refl
+
+-- a 4 is reading's
+pub four-is-read : (v : View) (d : Read) → (stepOf v d .answer ≡ 4 → numberOf (d .outcome) ≡ 4) × (numberOf (d .outcome) ≡ 4 → stepOf v d .answer ≡ 4)
+unfolding stepOf
+four-is-read v d = go (d .outcome)
+  where
+    go : (x : Outcome Message) → (stepOn v x .answer ≡ 4 → numberOf x ≡ 4) × (numberOf x ≡ 4 → stepOn v x .answer ≡ 4)
+    go (done m) = (
+      λ e. absurd (act-answers (λ (k : ℕ). k ≢ 4) (record { done = λ z. omega (arith, z); symbol = λ z. omega (arith, z); below = λ z. omega (arith, z); above = λ z. omega (arith, z); stale = λ z. omega (arith, z); fit = λ z. omega (arith, z); room = λ z. omega (arith, z) }) v (meant m) e),
+      λ z. absurd (omega (arith, z)),
+    )
+    go (refused k) = ((λ e. e), (λ e. e))
 
 -- ---- a quote: 0, 5 and 8; the day's volume: 0 and 5
 pub quote-answers : (v : View) (index : ℕ) → among (quoteOf index v .answer) (0 ∷ 5 ∷ 8 ∷ []) ≡ true

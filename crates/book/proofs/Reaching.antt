@@ -23,7 +23,7 @@ same-next x y a b m n e p q = (p .answer ∙ ap (λ (z : Next Symbol). z .answer
 pub alike : (a b : Book) → Wf a → Wf b → view a ≡ view b → Alike a b
 alike a b u v e = record {
   registering = λ index name scale q r p s. same-next _ _ _ _ _ _ (ap (λ (x : View). registerOf x index name scale) e) (p .obeys u) (s .obeys v);
-  applying = λ s at q r p m. let z = same-next _ _ _ _ _ _ (ap (λ (x : View). moveOf x s at) e) (p .obeys u) (m .obeys v) in (z .0, p .at ∙ sym (m .at), p .stops ∙ sym (m .stops), z .1);
+  applying = λ s at q r p m. let z = same-next _ _ _ _ _ _ (ap (λ (x : View). moveOf x s at) e) (p .obeys u) (m .obeys v) in (z .0, p .offset ∙ sym (m .offset), p .at ∙ sym (m .at), p .stops ∙ sym (m .stops), z .1);
   running = λ s at q r p m. let z = same-next _ _ _ _ _ _ (ap (λ (x : View). runOf x s at) e) (p .obeys u) (m .obeys v) in (z .0, p .at ∙ sym (m .at), z .1);
   telling = λ index q r p t. p ∙ ap (toldIn index) e ∙ sym t;
   quoting = λ index q r p s. p ∙ ap (quoteOf index) e ∙ sym s;

@@ -2,20 +2,20 @@
 use mathlib.Core.Bool.{true, false, true≢false, false≢true}
 use mathlib.Core.List.{List, [], _∷_, _++_}
 use mathlib.Core.Path.{_≡_, refl, sym, ap, _∙_}
-use Prim.Native.Nat.{ℕ, zero, suc, _+_, _<_, _≤_}
+use Prim.Native.Nat.{ℕ, zero, suc, _+_, _-_, _<_, _≤_}
 use native.Mathlib.Omega.{arith}
-use native.Mathlib.Nat.{not-suc-le-zero}
+use native.Mathlib.Nat.{not-suc-le-zero, add-sub-cancel-left}
 use lib.ListN.{length, take, drop, length-drop}
 use Rattle.wire.specs.Outcome.{Outcome, done, refused, numberOf}
-use Rattle.wire.specs.Reading.{reachOf, readOf, decodedAs}
+use Rattle.wire.specs.Reading.{Read, reachOf, readOf, decodedAs}
 use Rattle.wire.specs.declared.Decoded.{Decoded}
 use Rattle.wire.proofs.Cases.{reached}
 use Rattle.book.specs.State.{View, view, Wf}
 use Rattle.book.specs.Step.{stepOf}
 use Rattle.book.specs.Promises.{Steps}
-use Rattle.book.specs.Walk.{landing, stopping, moveOf, walkFor, walkOf, stepsOf, runOf, Moves, Runs}
+use Rattle.book.specs.Walk.{landing, stopping, offsetBy, moveOf, walkFor, walkOf, stepsOf, runOf, Moves, Runs}
 use Rattle.book.specs.declared.Book.{Book}
-use Rattle.book.specs.declared.Done.{Done}
+use Rattle.book.specs.declared.step.Stepped.{Stepped}
 use Rattle.book.specs.declared.walk.Moved.{Moved}
 
 -- ---- one message
@@ -24,20 +24,23 @@ move-within s at n e = omega (arith, reached (drop at s) n e .least, reached (dr
 
 module _ (b : Book) (s : List ℕ) (at : ℕ) where
   -- a stop leaves all as it was
-  pub move-stops : (a : ℕ) → reachOf (drop at s) ≡ refused a → Moves b s at (record { book = b; at = at; answer = a; stops = true })
+  pub move-stops : (a : ℕ) → reachOf (drop at s) ≡ refused a → Moves b s at (record { book = b; at = at; answer = a; offset = 0; stops = true })
   unfolding moveOf
   move-stops a e = record {
     at = rw e;
+    offset = rw e;
     stops = rw e;
     stopped = λ t. rw e;
     kept = λ t. refl;
     obeys = λ w. record { wf = w; next-view = rw e; answer = rw e };
   }
 
-  pub move-goes : (n : ℕ) → reachOf (drop at s) ≡ done n → (d : Decoded) (r : Done) → decodedAs d ≡ readOf (take n (drop at s)) → Steps b (stepOf (view b) (decodedAs d)) r → Moves b s at (record { book = r .book; at = at + n; answer = r .answer; stops = false })
+  pub move-goes : (n : ℕ) → reachOf (drop at s) ≡ done n → (d : Decoded) (r : Stepped) → decodedAs d ≡ readOf (take n (drop at s)) → Steps b (stepOf (view b) (decodedAs d)) (record { book = r .book; answer = r .answer }) → r .offset ≡ decodedAs d .offset
+      → Moves b s at (record { book = r .book; at = at + n; answer = r .answer; offset = r .offset; stops = false })
   unfolding moveOf
-  move-goes n e d r q p = record {
+  move-goes n e d r q p o = record {
     at = rw e;
+    offset = rw e (o ∙ ap (λ (x : Read). x .offset) q);
     stops = rw e;
     stopped = λ t. absurd (false≢true t);
     kept = p .kept;
@@ -80,6 +83,17 @@ module _ (c : Book) (s : List ℕ) (at : ℕ) (r : Moved) (m : Moves c s at r) w
           let l = reached (drop at s) n e .least in
           let to : r .at ≡ at + n = m .at ∙ ap (λ (x : Outcome ℕ). landing x at) e in
           (omega arith, omega (arith, move-within s at n e))
+
+  -- the bytes passed are the message's, and so is the offset
+  pub passed-bytes : (n : ℕ) → reachOf (drop at s) ≡ done n → take (r .at - at) (drop at s) ≡ take n (drop at s)
+  passed-bytes n e = ap (λ (j : ℕ). take j (drop at s)) (ap (λ (j : ℕ). j - at) (m .at ∙ ap (λ (x : Outcome ℕ). landing x at) e) ∙ add-sub-cancel-left at n)
+
+  pub passed-offset : r .stops ≡ false → r .offset ≡ readOf (take (r .at - at) (drop at s)) .offset
+  passed-offset f = go (reachOf (drop at s)) refl
+    where
+      go : (x : Outcome ℕ) → reachOf (drop at s) ≡ x → r .offset ≡ readOf (take (r .at - at) (drop at s)) .offset
+      go (refused a) e = absurd (true≢false (sym (stops-by (refused a) e) ∙ f))
+      go (done n) e = m .offset ∙ ap (λ (x : Outcome ℕ). offsetBy x s at) e ∙ ap (λ (t : List ℕ). readOf t .offset) (sym (passed-bytes n e))
 
   module _ (from : ℕ) (b : Book) where
     pub left-on : r .stops ≡ false → Left s from b at c → Left s from b (r .at) (r .book)

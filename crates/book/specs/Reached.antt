@@ -21,12 +21,12 @@ pub data Reached : Book → Type 0 where
   applied : {b : Book} {s : List ℕ} {at : ℕ} {r : Moved} → Reached b → Moves b s at r → Reached (r .book)
   ran : {b : Book} {s : List ℕ} {at : ℕ} {r : Ran} → Reached b → Runs b s at r → Reached (r .book)
 
--- two states that answer every call alike: the same answer, the same position, the same next view
+-- two states that answer every call alike: the same answer, the same offset, the same position, the same next view
 pub record Alike (a b : Book) : Type 0 where
   pub registering : (index : ℕ) (name : List ℕ) (scale : ℕ) (q r : Done) → Steps a (registerOf (view a) index name scale) q → Steps b (registerOf (view b) index name scale) r
       → (q .answer ≡ r .answer) × (view (q .book) ≡ view (r .book))
   pub applying : (s : List ℕ) (at : ℕ) (q r : Moved) → Moves a s at q → Moves b s at r
-      → (q .answer ≡ r .answer) × (q .at ≡ r .at) × (q .stops ≡ r .stops) × (view (q .book) ≡ view (r .book))
+      → (q .answer ≡ r .answer) × (q .offset ≡ r .offset) × (q .at ≡ r .at) × (q .stops ≡ r .stops) × (view (q .book) ≡ view (r .book))
   pub running : (s : List ℕ) (at : ℕ) (q r : Ran) → Runs a s at q → Runs b s at r
       → (q .answer ≡ r .answer) × (q .at ≡ r .at) × (view (q .book) ≡ view (r .book))
   pub telling : (index : ℕ) (q r : Listing) → q ≡ toldIn index (view a) → r ≡ toldIn index (view b) → q ≡ r

@@ -23,6 +23,11 @@ abbrev pub stopping : Outcome ℕ → Bool
 stopping (refused a) = true
 stopping (done n) = false
 
+-- the offset of the first bad field in the message there; 0 where nothing reaches
+abbrev pub offsetBy : Outcome ℕ → List ℕ → ℕ → ℕ
+offsetBy (refused a) s at = 0
+offsetBy (done n) s at = readOf (take n (drop at s)) .offset
+
 abbrev pub moveBy : Outcome ℕ → View → List ℕ → ℕ → Next Symbol
 moveBy (refused a) v s at = refusing v a
 moveBy (done n) v s at = stepOf v (readOf (take n (drop at s)))
@@ -65,11 +70,12 @@ stepsOf v (m ∷ ms) = stepsOf (stepOf v (readOf m) .view) ms
 unfoldable pub runOf : View → List ℕ → ℕ → Next Symbol
 runOf v s at = record { view = stepsOf v (walkOf s at .messages); answer = walkOf s at .answer }
 
--- ---- what the calls promise. Position and stop are promised of any state
+-- ---- what the calls promise. Position, offset and stop are promised of any state
 pub record Moves (b : Book) (s : List ℕ) (from : ℕ) (r : Moved) : Type 0 where
   pub at : r .at ≡ landing (reachOf (drop from s)) from
+  pub offset : r .offset ≡ offsetBy (reachOf (drop from s)) s from
   pub stops : r .stops ≡ stopping (reachOf (drop from s))
-  pub stopped : r .stops ≡ true → r ≡ record { book = b; at = from; answer = numberOf (reachOf (drop from s)); stops = true }
+  pub stopped : r .stops ≡ true → r ≡ record { book = b; at = from; answer = numberOf (reachOf (drop from s)); offset = 0; stops = true }
   pub kept : unchanging (r .answer) ≡ true → r .book ≡ b
   pub obeys : Wf b → Obeys (moveOf (view b) s from) (r .book) (r .answer)
 

@@ -6,23 +6,47 @@ use crate::acts::Effect;
 use crate::acts::act_of;
 use wire::Answer;
 use wire::Decoded;
+use wire::Message;
+ghost use mathlib.Core.Path.{_≡_};
 ghost use Rattle.feed.specs.Reader.{numbered};
 ghost use Rattle.wire.specs.Reading.{decodedAs};
 ghost use Rattle.book.specs.State.{view};
 ghost use Rattle.book.specs.Promises.{Steps, Awaits, Settles};
-ghost use Rattle.book.specs.Step.{actOn, stepOf};
+ghost use Rattle.book.specs.Step.{actOn, meant, stepOf};
+
+// The next state, document 01's number, and beside a 4 the offset of the first bad field.
+pub(crate) struct Stepped {
+    pub(crate) book: Book,
+    pub(crate) answer: u8,
+    pub(crate) offset: usize,
+}
 
 impl Book {
-    pub(crate) fn step(self, d: Decoded) -> Done
-        ensures { λ r. ⌜ Steps self (stepOf (view self) (decodedAs d)) r ⌝ }
+    pub(crate) fn step(self, d: Decoded) -> Stepped
+        ensures steps { λ r. ⌜ Steps self (stepOf (view self) (decodedAs d)) (record { book = r .book; answer = r .answer }) ⌝ }
+        ensures offset { λ r. ⌜ r .offset ≡ decodedAs d .offset ⌝ }
     {
         let a = d.answer;
         let Answer::Message(m) = a else {
-            return Done {
+            return Stepped {
                 book: self,
                 answer: wire::number_of_answer(a),
+                offset: wire::offset_of_answer(a),
             };
         };
+        let r = self.act(m);
+        let next = r.book;
+        Stepped {
+            book: next,
+            answer: r.answer,
+            offset: 0,
+        }
+    }
+
+    // What a message that was read does.
+    fn act(self, m: Message) -> Done
+        ensures { λ r. ⌜ Steps self (actOn (view self) (meant m)) r ⌝ }
+    {
         let act = act_of(m);
         match act {
             Act::Clear(index, next) => self.clear(index, next),

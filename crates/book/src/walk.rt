@@ -3,11 +3,13 @@ use crate::Book;
 use wire::Reach;
 ghost use Rattle.book.specs.Walk.{Moves, Runs};
 
-// One message of a stream: the next state, where the next message starts, the answer, and whether a run stops here.
+// One message of a stream: the next state, where the next message starts, the answer, and whether a run stops here. Beside a 4 stands the offset in the message of
+// its first bad field, beside any other answer 0.
 pub struct Moved {
     pub book: Book,
     pub at: usize,
     pub answer: u8,
+    pub offset: usize,
     pub stops: bool,
 }
 
@@ -29,12 +31,14 @@ impl Book {
                 book: self,
                 at,
                 answer: 1,
+                offset: 0,
                 stops: true,
             },
             Reach::Small => Moved {
                 book: self,
                 at,
                 answer: 2,
+                offset: 0,
                 stops: true,
             },
             Reach::Size(size) => {
@@ -46,6 +50,7 @@ impl Book {
                     book: next,
                     at: end,
                     answer: r.answer,
+                    offset: r.offset,
                     stops: false,
                 }
             }

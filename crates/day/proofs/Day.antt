@@ -3,7 +3,7 @@ use mathlib.Core.List.{List, [], _∷_}
 use mathlib.Core.Path.{_≡_, refl, ap, _∙_}
 use Rattle.wire.specs.Bytes.{value, littleEndian}
 use Rattle.wire.specs.Table.{shapeOf}
-use Rattle.wire.specs.Fields.{faultBy, faultOf}
+use Rattle.wire.specs.Fields.{firstBad, faultOf}
 use Rattle.wire.specs.Reading.{reachBy, reachOf, readBy, readBody, readSized, readShape, readTyped, readReached, readOf}
 use Rattle.places.specs.Places.{firstWhere, fold, sumBy, insert, remove, look, tabulate}
 use Rattle.symbols.specs.State.{placeOf, foundIn, vacancyOf, paddedName}
@@ -46,7 +46,7 @@ all-by-calls [] h = tt
 all-by-calls (r ∷ rs) h = (by-calls r (h .0), all-by-calls rs (h .1))
 
 by-rule : AllRows ByRule rows
-unfolding value littleEndian shapeOf faultBy faultOf reachBy reachOf readBy readBody readSized readShape readTyped readReached readOf firstWhere fold sumBy insert remove look placeOf foundIn vacancyOf applyTo dealTo nameBad registered bestStep sharesAt levelOf quoteOf ruled enacted meeting actOn meant stepOf moveOf stepsOf
+unfolding value littleEndian shapeOf firstBad faultOf reachBy reachOf readBy readBody readSized readShape readTyped readReached readOf firstWhere fold sumBy insert remove look placeOf foundIn vacancyOf applyTo dealTo nameBad registered bestStep sharesAt levelOf quoteOf ruled enacted meeting actOn meant stepOf moveOf stepsOf
 by-rule = (refl, (refl, (refl, (refl, (refl, (refl, (refl, (refl, (refl, (refl, (refl, (refl, (refl, tt)))))))))))))
 
 -- what is told of ABC is what the marked case has
@@ -55,7 +55,7 @@ unfolding firstWhere placeOf foundIn vacancyOf nameBad registered toldOf toldIn 
 abc-told p = ap (toldIn 7) (has-view p) ∙ refl
 
 line-l : LineL
-unfolding value littleEndian shapeOf faultBy faultOf reachBy reachOf readBy readBody readSized readShape readTyped readReached readOf
+unfolding value littleEndian shapeOf firstBad faultOf reachBy reachOf readBy readBody readSized readShape readTyped readReached readOf
 line-l = record {
   reads = refl;
   by-calls = λ p out after h promise room.

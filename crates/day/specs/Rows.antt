@@ -112,9 +112,9 @@ rows =
 
 -- ---- L: the line of #3, an add, read from its bytes, into any buffer that has room
 pub record LineL : Type 0 where
-  pub reads : readOf (add 3 1001 buy 1234500 200) ≡ record { outcome = done marked.add; plain = marked.firm }
+  pub reads : readOf (add 3 1001 buy 1234500 200) ≡ record { outcome = done marked.add; offset = 0; plain = marked.firm }
   pub by-calls : {b : Book} (p : Printed) (out after : List ℕ) → HasABC b → (Wf b → printed p after ≡ lineOf (told b marked.add) marked.add marked.firm marked.sequenceL marked.secondL out)
-      → length marked.lineL ≤ length out → printed p after ≡ record { outcome = done (length marked.lineL); out = marked.lineL ++ drop (length marked.lineL) out }
+      → length marked.lineL ≤ length out → printed p after ≡ record { outcome = done (length marked.lineL); offset = 0; out = marked.lineL ++ drop (length marked.lineL) out }
 
 -- ---- all of the day
 pub record Day : Type 0 where

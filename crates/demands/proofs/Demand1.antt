@@ -12,8 +12,13 @@ use borrow.Author.Tests.{eqb-true, eqb-false, ltb-true, ltb-false}
 use Rattle.wire.specs.Outcome.{Outcome, done, refused, numberOf}
 use Rattle.wire.specs.Reading.{leastSize, msgSize, reachOf, readOf}
 use Rattle.wire.specs.Writing.{countOf, Write, writeOf}
+use Rattle.wire.specs.Fields.{faultAs}
+use Rattle.wire.specs.Message.{faultIn, badFieldOf}
+use Rattle.wire.specs.FirstBad.{Locates}
+use Rattle.wire.specs.declared.Fault.{Fault}
 use Rattle.wire.specs.declared.Message.{Message}
 use Rattle.wire.proofs.Cases.{done-is-not-refused, reached, reach-short, reach-small, reach-beyond, reach-size}
+use Rattle.wire.proofs.Offsets.{read-locates, field-locates, write-locates}
 use Rattle.wire.proofs.Refusing.{reach-refused, read-refused, reached-refused, write-refused, write-fills}
 use Rattle.feed.specs.Reader.{Fit, fits, misfit, no-room, ruled, Act, clearing, numbered, indexOf}
 use Rattle.places.specs.Places.{among}
@@ -29,12 +34,12 @@ use Rattle.book.specs.State.{Symbol, View, view, entryOf, symbolIn, liveOf, liv
 use Rattle.book.specs.Step.{changeOf, dealOf, enacted, meeting, actAt, actOn, meant, stepOn, stepOf}
 use Rattle.book.specs.Registering.{started, registerOf}
 use Rattle.book.specs.Promises.{unchanging, staling, Steps}
-use Rattle.book.specs.Walk.{landing, stopping, moveBy, moveOf, walkOf, runOf, Moves}
+use Rattle.book.specs.Walk.{landing, stopping, offsetBy, moveBy, moveOf, walkOf, runOf, Moves}
 use Rattle.book.specs.Reached.{Reached}
 use Rattle.book.specs.declared.Book.{Book}
 use Rattle.book.specs.declared.Done.{Done}
 use Rattle.book.specs.declared.walk.Moved.{Moved}
-use Rattle.book.proofs.Answers.{step-answers, quote-answers, quote-refused, volume-answers, volume-refused, told-answers, told-refused}
+use Rattle.book.proofs.Answers.{step-answers, four-is-read, quote-answers, quote-refused, volume-answers, volume-refused, told-answers, told-refused}
 use Rattle.book.proofs.Isolation.{unregistered-stays, own-symbol, own-symbol-only}
 use Rattle.book.proofs.Positions.{position-is-sum, stops-there}
 use Rattle.book.proofs.Reaching.{reached-wf, alike}
@@ -43,8 +48,8 @@ use Rattle.demands.specs.Reader.{Orders, Effect}
 use Rattle.page.specs.Printing.{told}
 use Rattle.page.specs.Printout.{closing}
 use Rattle.page.proofs.Cases.{bytes-beyond-stay, laid-beyond}
-use Rattle.page.proofs.Answers.{laid-answers, line-answers, laid-refused, line-refused, laying-answers, only-late, laying-moves}
-use Rattle.demands.specs.Demand1.{OneOf, Answers, WireNumbers, RoomNumbers, PageNumbers, Pages, Rooms, BookNumbers, Buffers, LeavesStale, Refusals, States, Questions, TooFew, no-size, cut, Stays, Passes, Positions, Moving, Demand1}
+use Rattle.page.proofs.Answers.{laid-answers, line-answers, line-locates, laid-refused, line-refused, laying-answers, only-late, laying-moves}
+use Rattle.demands.specs.Demand1.{OneOf, Answers, WireNumbers, RoomNumbers, PageNumbers, Pages, Rooms, BookNumbers, BadThere, Offsets, Buffers, LeavesStale, Refusals, States, Questions, TooFew, no-size, cut, Stays, Passes, Positions, Moving, Demand1}
 use Rattle.demands.specs.Demand3.{StandsAt}
 use Rattle.demands.proofs.Demand3.{stands-acts}
 
@@ -73,6 +78,14 @@ write-numbers m plain out = go (writeOf m plain out .outcome) (λ n e. write-ref
     go (done m) h = refl
     go (refused n) h = h n refl
 
+field-numbers : (m : Message) → OneOf (0 ∷ 4 ∷ []) (numberOf (badFieldOf m .outcome))
+unfolding among
+field-numbers m = go (faultIn m)
+  where
+    go : (x : Fault) → OneOf (0 ∷ 4 ∷ []) (numberOf (faultAs x .outcome))
+    go Fault.Nothing = refl
+    go (Fault.At n) = refl
+
 -- ---- the numbers of a message
 abbrev ofMessage : List ℕ
 ofMessage = 0 ∷ 1 ∷ 2 ∷ 3 ∷ 4 ∷ 5 ∷ 6 ∷ 7 ∷ 8 ∷ 9 ∷ 10 ∷ []
@@ -82,7 +95,7 @@ unfolding moveOf among
 move-numbers v s at = go (reachOf (drop at s)) refl
   where
     go : (x : Outcome ℕ) → reachOf (drop at s) ≡ x → OneOf ofMessage (moveBy x v s at .answer)
-    go (done n) e = step-answers (OneOf ofMessage) (record { done = refl; size = refl; type = refl; field = refl; symbol = refl; below = refl; above = refl; stale = refl; fit = refl; room = refl }) v (drop at s) n e
+    go (done n) e = step-answers (OneOf ofMessage) (record { acts = record { done = refl; symbol = refl; below = refl; above = refl; stale = refl; fit = refl; room = refl }; size = refl; type = refl; field = refl }) v (drop at s) n e
     go (refused k) e = reach-refused (OneOf ofMessage) refl refl (drop at s) k e
 
 -- ---- the answers that change nothing
@@ -194,6 +207,29 @@ module _ {b : Book} (p : Reached b) {s : List ℕ} {at : ℕ} {r : Moved} (m : M
           absurd (reach-refused (λ (j : ℕ). staling j ≡ true → ⊥) (not-staling 1 refl) (not-staling 2 refl) (drop at s) k e (rw number at h))
       reaches (done n) e = reads n e (readOf (take n (drop at s)) .outcome) refl
 
+  -- a 4 is reading's, and so is its offset
+  apply-locates : Locates (BadThere s at) (r .answer) (r .offset)
+  unfolding moveOf
+  apply-locates = go (reachOf (drop at s)) refl
+    where
+      go : (x : Outcome ℕ) → reachOf (drop at s) ≡ x → Locates (BadThere s at) (r .answer) (r .offset)
+      go (refused k) e =
+          let number : r .answer ≡ k = answered ∙ ap (λ (y : Outcome ℕ). moveBy y (view b) s at .answer) e in
+          record {
+            bad-field = λ four. absurd (reach-refused (λ (j : ℕ). j ≢ 4) (λ z. omega (arith, z)) (λ z. omega (arith, z)) (drop at s) k e (sym number ∙ four));
+            no-field = λ other. m .offset ∙ ap (λ (y : Outcome ℕ). offsetBy y s at) e;
+          }
+      go (done n) e =
+          let d = readOf (take n (drop at s)) in
+          let number : r .answer ≡ stepOf (view b) d .answer = answered ∙ ap (λ (y : Outcome ℕ). moveBy y (view b) s at .answer) e in
+          let offset : r .offset ≡ d .offset = m .offset ∙ ap (λ (y : Outcome ℕ). offsetBy y s at) e in
+          let read = read-locates (take n (drop at s)) in
+          let four = four-is-read (view b) d in
+          record {
+            bad-field = λ z. record { bytes = take n (drop at s); stands = record { size = n; reaches = e; bytes = refl }; first = rw offset (read .bad-field (four .0 (sym number ∙ z))) };
+            no-field = λ other. offset ∙ read .no-field (λ z. other (number ∙ four .1 z));
+          }
+
   -- how far it moves, by what reaches from there
   stays : (n : ℕ) → reachOf (drop at s) ≡ refused n → Stays n at r
   stays n e =
@@ -204,7 +240,7 @@ module _ {b : Book} (p : Reached b) {s : List ℕ} {at : ℕ} {r : Moved} (m : M
   unfolding moveOf
   not-one n e one =
       step-answers (λ (k : ℕ). k ≢ 1)
-      (record { done = λ z. omega (arith, z); size = λ z. omega (arith, z); type = λ z. omega (arith, z); field = λ z. omega (arith, z); symbol = λ z. omega (arith, z); below = λ z. omega (arith, z); above = λ z. omega (arith, z); stale = λ z. omega (arith, z); fit = λ z. omega (arith, z); room = λ z. omega (arith, z) })
+      (record { acts = record { done = λ z. omega (arith, z); symbol = λ z. omega (arith, z); below = λ z. omega (arith, z); above = λ z. omega (arith, z); stale = λ z. omega (arith, z); fit = λ z. omega (arith, z); room = λ z. omega (arith, z) }; size = λ z. omega (arith, z); type = λ z. omega (arith, z); field = λ z. omega (arith, z) })
       (view b) (drop at s) n e (sym (answered ∙ ap (λ (y : Outcome ℕ). moveBy y (view b) s at .answer) e) ∙ one)
 
   passes : (n : ℕ) → reachOf (drop at s) ≡ done n → Passes (msgSize (drop at s)) at r
@@ -297,7 +333,7 @@ module _ {b : Book} (p : Reached b) where
   rooms = record { registering = λ index name scale m. m .kept; changing = λ k m. m .kept; dealing = λ k m. m .kept }
 
   wire-numbers : WireNumbers
-  wire-numbers = record { reaching = reach-numbers; reading = read-numbers; writing = write-numbers }
+  wire-numbers = record { reaching = reach-numbers; reading = read-numbers; testing = field-numbers; writing = write-numbers }
 
   book-numbers : BookNumbers b
   unfolding among
@@ -315,6 +351,15 @@ module _ {b : Book} (p : Reached b) where
     reading = λ s n e. read-refused (λ (k : ℕ). Unit {0}) tt tt tt s tt n e .nothing;
     writing = λ m plain out n e. (ap (λ (w : Write). w .out) (write-refused m plain out (λ (k : ℕ). Unit {0}) tt tt n e .untouched), ap countOf e);
     beyond = write-fills;
+  }
+
+  offsets : Offsets b
+  offsets = record {
+    reading = read-locates;
+    testing = field-locates;
+    writing = write-locates;
+    printing = λ m plain sequence second out. line-locates (told b m) m plain sequence second out;
+    applying = λ m. apply-locates p m;
   }
 
   page-numbers : PageNumbers b
@@ -379,6 +424,7 @@ module _ {b : Book} (p : Reached b) where
     room-numbers = room-numbers;
     book-numbers = book-numbers;
     page-numbers = page-numbers;
+    offsets = offsets;
     buffers = buffers;
     pages = pages;
     rooms = rooms;

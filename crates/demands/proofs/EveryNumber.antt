@@ -3,12 +3,13 @@ use mathlib.Core.List.{List, [], _∷_}
 use mathlib.Core.Path.{_≡_, refl}
 use Prim.Native.Nat.{ℕ, zero, suc, _+_}
 use lib.ListN.{replicate}
-use Rattle.wire.specs.Outcome.{done, refused}
+use Rattle.wire.specs.Outcome.{done, refused, only, badAt}
 use Rattle.wire.specs.Bytes.{value, littleEndian, plainRoom}
 use Rattle.wire.specs.Table.{shapeOf}
-use Rattle.wire.specs.Fields.{faultBy, faultOf}
+use Rattle.wire.specs.Fields.{firstBad, faultOf}
 use Rattle.wire.specs.Reading.{reachBy, reachOf, readBy, readBody, readSized, readShape, readTyped, readReached, readOf}
 use Rattle.wire.specs.Writing.{writeSized, writeBy, writeShape, writeOf}
+use Rattle.wire.specs.Message.{faultIn, badFieldOf}
 use Rattle.wire.specs.declared.Message.{Message}
 use Rattle.feed.specs.Reader.{ruled}
 use Rattle.places.specs.Places.{firstWhere, tabulate, insert, remove, look}
@@ -21,7 +22,7 @@ use Rattle.book.specs.State.{View, newView}
 use Rattle.book.specs.Registering.{registerOf, toldIn}
 use Rattle.book.specs.Quote.{quoteOf, volumeOf}
 use Rattle.book.specs.Step.{enacted, meeting, actOn, meant, stepOf}
-use Rattle.book.specs.Walk.{moveOf, stepsOf}
+use Rattle.book.specs.Walk.{offsetBy, moveOf, stepsOf}
 use Rattle.demands.specs.Examples.{name, scale, viewABC}
 use Rattle.demands.specs.Messages.{index, buy, add, delete, clear}
 
@@ -46,13 +47,18 @@ pub record ByWire : Type 0 where
   pub read-2 : readOf small .outcome ≡ refused 2
   pub read-3 : readOf unknown .outcome ≡ refused 3
   pub read-4 : readOf (add 1 1001 0 1234500 200) .outcome ≡ refused 4
+  pub read-4-at : readOf (add 1 1001 0 1234500 200) .offset ≡ 32
+  pub read-4-first : readOf (add 1 1001 0 1234500 0) .offset ≡ 28
+  pub test-0 : badFieldOf (deletion 125) ≡ only (done tt)
+  pub test-4 : badFieldOf (deletion 1000000000) ≡ badAt 4
   pub write-0 : writeOf (deletion 125) zeros (replicate 25 0) .outcome ≡ done 25
   pub write-4 : writeOf (deletion 1000000000) zeros (replicate 25 0) .outcome ≡ refused 4
+  pub write-4-at : writeOf (deletion 1000000000) zeros (replicate 25 0) .offset ≡ 4
   pub write-15 : writeOf (deletion 125) zeros (replicate 24 0) .outcome ≡ refused 15
 
 pub by-wire : ByWire
-unfolding value littleEndian shapeOf faultBy faultOf reachBy reachOf readBy readBody readSized readShape readTyped readReached readOf writeSized writeBy writeShape writeOf
-by-wire = record { reach-0 = refl; reach-1 = refl; reach-2 = refl; read-1 = refl; read-2 = refl; read-3 = refl; read-4 = refl; write-0 = refl; write-4 = refl; write-15 = refl }
+unfolding value littleEndian shapeOf firstBad faultOf faultIn reachBy reachOf readBy readBody readSized readShape readTyped readReached readOf writeSized writeBy writeShape writeOf
+by-wire = record { reach-0 = refl; reach-1 = refl; reach-2 = refl; read-1 = refl; read-2 = refl; read-3 = refl; read-4 = refl; read-4-at = refl; read-4-first = refl; test-0 = refl; test-4 = refl; write-0 = refl; write-4 = refl; write-4-at = refl; write-15 = refl }
 
 -- ---- registering, and a quote
 abbrev gap : List ℕ
@@ -77,7 +83,7 @@ pub record ByBook : Type 0 where
   pub symbol-5 : toldIn index newView .answer ≡ 5
 
 pub by-book : ByBook
-unfolding registeredTo value littleEndian shapeOf faultBy faultOf reachBy reachOf readBy readBody readSized readShape readTyped readReached readOf firstWhere insert remove look placeOf foundIn vacancyOf applyTo dealTo nameBad registering.registered registering.toldOf toldIn quoteOf volumeOf ruled enacted meeting actOn meant stepOf stepsOf
+unfolding registeredTo value littleEndian shapeOf firstBad faultOf reachBy reachOf readBy readBody readSized readShape readTyped readReached readOf firstWhere insert remove look placeOf foundIn vacancyOf applyTo dealTo nameBad registering.registered registering.toldOf toldIn quoteOf volumeOf ruled enacted meeting actOn meant stepOf stepsOf
 by-book = record { register-0 = refl; register-11 = refl; register-12 = refl; register-13 = refl; quote-0 = refl; quote-5 = refl; quote-8 = refl; volume-0 = refl; volume-5 = refl; symbol-0 = refl; symbol-5 = refl }
 
 -- ---- a message, with ABC registered
@@ -93,6 +99,7 @@ pub record ByMessage : Type 0 where
   pub given-2 : Answered viewABC small 2
   pub given-3 : Answered viewABC unknown 3
   pub given-4 : Answered viewABC (add 1 1001 0 1234500 200) 4
+  pub given-4-at : offsetBy (reachOf (add 1 1001 0 1234500 200)) (add 1 1001 0 1234500 200) 0 ≡ 32
   pub given-5 : Answered newView one 5
   pub given-6 : Answered viewABC (add 0 1001 buy 1234500 200) 6
   pub given-7 : Answered viewABC gap 7
@@ -100,13 +107,13 @@ pub record ByMessage : Type 0 where
   pub given-9 : Answered viewABC (delete 1 1001) 9
 
 pub by-message : ByMessage
-unfolding value littleEndian shapeOf faultBy faultOf reachBy reachOf readBy readBody readSized readShape readTyped readReached readOf firstWhere insert remove look placeOf foundIn vacancyOf applyTo dealTo nameBad registering.registered ruled enacted meeting actOn meant stepOf moveOf stepsOf
-by-message = record { given-0 = refl; given-1 = refl; given-2 = refl; given-3 = refl; given-4 = refl; given-5 = refl; given-6 = refl; given-7 = refl; given-8 = refl; given-9 = refl }
+unfolding value littleEndian shapeOf firstBad faultOf reachBy reachOf readBy readBody readSized readShape readTyped readReached readOf firstWhere insert remove look placeOf foundIn vacancyOf applyTo dealTo nameBad registering.registered ruled enacted meeting actOn meant stepOf moveOf stepsOf
+by-message = record { given-0 = refl; given-1 = refl; given-2 = refl; given-3 = refl; given-4 = refl; given-4-at = refl; given-5 = refl; given-6 = refl; given-7 = refl; given-8 = refl; given-9 = refl }
 
 -- 64 live orders, and one more
 abbrev adds : List (List ℕ)
 adds = tabulate 64 (λ k. add (k + 1) (k + 1) buy 1234500 200)
 
 pub given-10 : Answered (stepsOf viewABC adds) (add 65 65 buy 1234500 200) 10
-unfolding value littleEndian shapeOf faultBy faultOf reachBy reachOf readBy readBody readSized readShape readTyped readReached readOf firstWhere tabulate insert remove look placeOf foundIn vacancyOf applyTo dealTo nameBad registering.registered ruled enacted meeting actOn meant stepOf moveOf stepsOf
+unfolding value littleEndian shapeOf firstBad faultOf reachBy reachOf readBy readBody readSized readShape readTyped readReached readOf firstWhere tabulate insert remove look placeOf foundIn vacancyOf applyTo dealTo nameBad registering.registered ruled enacted meeting actOn meant stepOf moveOf stepsOf
 given-10 = refl

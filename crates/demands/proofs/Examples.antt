@@ -8,7 +8,7 @@ use borrow.Author.Tests.{lt-ltb}
 use lib.Dec.{eqb}
 use Rattle.wire.specs.Bytes.{value, littleEndian}
 use Rattle.wire.specs.Table.{shapeOf}
-use Rattle.wire.specs.Fields.{faultBy, faultOf}
+use Rattle.wire.specs.Fields.{firstBad, faultOf}
 use Rattle.wire.specs.Reading.{reachBy, reachOf, readBy, readBody, readSized, readShape, readTyped, readReached, readOf}
 use Rattle.feed.specs.Reader.{ruled, numbered}
 use Rattle.places.specs.Places.{firstWhere, fold, sumBy, insert, remove, look}
@@ -69,7 +69,7 @@ record AllFair : Type 0 where
   pub along : quotesAlong withLosses ≡ alongLosses
 
 all-fair : AllFair
-unfolding Complete Applied ClearsDelivered sent quotesAlong delivered quoteOf levelOf bestStep sharesAt fold sumBy value littleEndian shapeOf faultBy faultOf reachBy reachOf readBy readBody readSized readShape readTyped readReached readOf firstWhere insert remove look placeOf foundIn vacancyOf applyTo dealTo nameBad registering.registered ruled enacted meeting actOn meant stepOf stepsOf
+unfolding Complete Applied ClearsDelivered sent quotesAlong delivered quoteOf levelOf bestStep sharesAt fold sumBy value littleEndian shapeOf firstBad faultOf reachBy reachOf readBy readBody readSized readShape readTyped readReached readOf firstWhere insert remove look placeOf foundIn vacancyOf applyTo dealTo nameBad registering.registered ruled enacted meeting actOn meant stepOf stepsOf
 all-fair = record {
   one-add = record { complete = (tt, refl); applied = (tt, refl); clears = tt };
   with-losses = record {

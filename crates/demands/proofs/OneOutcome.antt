@@ -21,7 +21,7 @@ together-same (registered {q = q} {r = r} index name scale t p m) =
     record { left = p .obeys (s .left) .wf; right = m .obeys (s .right) .wf; views = same-alike s .registering index name scale q r p m .1 }
 together-same (applied {s = bytes} {at = at} {q = q} {r = r} t p m) =
     let s = together-same t in
-    record { left = p .obeys (s .left) .wf; right = m .obeys (s .right) .wf; views = same-alike s .applying bytes at q r p m .3 }
+    record { left = p .obeys (s .left) .wf; right = m .obeys (s .right) .wf; views = same-alike s .applying bytes at q r p m .4 }
 together-same (ran {s = bytes} {at = at} {q = q} {r = r} t p m) =
     let s = together-same t in
     record { left = p .obeys (s .left) .wf; right = m .obeys (s .right) .wf; views = same-alike s .running bytes at q r p m .2 }

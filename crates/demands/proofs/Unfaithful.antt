@@ -6,7 +6,7 @@ use Prim.Native.Nat.{ℕ}
 use native.Mathlib.Omega.{arith}
 use Rattle.wire.specs.Bytes.{value, littleEndian}
 use Rattle.wire.specs.Table.{shapeOf}
-use Rattle.wire.specs.Fields.{faultBy, faultOf}
+use Rattle.wire.specs.Fields.{firstBad, faultOf}
 use Rattle.wire.specs.Reading.{reachBy, reachOf, readBy, readBody, readSized, readShape, readTyped, readReached, readOf}
 use Rattle.feed.specs.Book.{fitted, bookAfter, bookOf}
 use Rattle.feed.specs.Demand3.{here, more, at-start, NotLost, NoneLost}
@@ -36,7 +36,7 @@ record Computed : Type 0 where
   pub none-lost : NoneLost index (feedOf oneAdd)
 
 computed : Computed
-unfolding feedOf bookOf bookAfter fitted NotLost quoteOf levelOf bestStep sharesAt fold sumBy value littleEndian shapeOf faultBy faultOf reachBy reachOf readBy readBody readSized readShape readTyped readReached readOf firstWhere insert look placeOf foundIn vacancyOf applyTo nameBad registering.registered meant
+unfolding feedOf bookOf bookAfter fitted NotLost quoteOf levelOf bestStep sharesAt fold sumBy value littleEndian shapeOf firstBad faultOf reachBy reachOf readBy readBody readSized readShape readTyped readReached readOf firstWhere insert look placeOf foundIn vacancyOf applyTo nameBad registering.registered meant
 computed = record { book = refl; before = refl; registered = tt; none-lost = record { from = _; counts = at-start; since = more here tt } }
 
 module _ (Takes : Book → List (List ℕ) → Book → Type 0) {b c : Book} (demand : Demand3 Takes b c) (p : HasABC b) (q : HasABC c) where

@@ -1,4 +1,5 @@
--- Demand 1 of document 00, for a host's programmer: the numbers that each call answers with, what a refusal leaves, and how far each answer moves.
+-- Demand 1 of document 00, for a host's programmer: the numbers that each call answers with, where a bad field stands (M-111), what a refusal leaves, and how far each
+-- answer moves.
 use Prim.Native.Nat.{ℕ, _+_, _≤_, _<_}
 use mathlib.Core.Bool.{true, false}
 use mathlib.Core.List.{List, [], _∷_}
@@ -10,6 +11,8 @@ use Rattle.wire.specs.Outcome.{done, refused, numberOf}
 use Rattle.wire.specs.Bytes.{plainRoom}
 use Rattle.wire.specs.Reading.{leastSize, msgSize, reachOf, noMessage, readOf}
 use Rattle.wire.specs.Writing.{Write, countOf, Fills, writeOf}
+use Rattle.wire.specs.Message.{badFieldOf}
+use Rattle.wire.specs.FirstBad.{FirstBadIn, FirstBadOf, Locates}
 use Rattle.wire.specs.declared.Message.{Message}
 use Rattle.feed.specs.Reader.{indexOf}
 use Rattle.places.specs.Places.{among, sumBy}
@@ -55,10 +58,11 @@ pub record Answers (numbers : List ℕ) (rule answer : ℕ) : Type 0 where
   pub one-of : OneOf numbers answer
   pub by-rule : answer ≡ rule
 
--- `wire`: how far a message reaches, reading one, and writing one, whose type is always known
+-- `wire`: how far a message reaches, reading one, testing the fields of one, and writing one, whose type is always known
 pub record WireNumbers : Type 0 where
   pub reaching : (s : List ℕ) → OneOf (0 ∷ 1 ∷ 2 ∷ []) (numberOf (reachOf s))
   pub reading : (s : List ℕ) → OneOf (0 ∷ 1 ∷ 2 ∷ 3 ∷ 4 ∷ []) (numberOf (readOf s .outcome))
+  pub testing : (m : Message) → OneOf (0 ∷ 4 ∷ []) (numberOf (badFieldOf m .outcome))
   pub writing : (m : Message) (plain out : List ℕ) → OneOf (0 ∷ 4 ∷ 15 ∷ []) (numberOf (writeOf m plain out .outcome))
 
 -- `book`: registering, a message, a run, and the questions
@@ -83,6 +87,21 @@ pub record PageNumbers (b : Book) : Type 0 where
   pub laying : {stream before after : List ℕ} {at place second : ℕ} {r : Laid} → Lays b stream at place second before r after → OneOf (1 ∷ 2 ∷ 14 ∷ 15 ∷ []) (r .answer)
   pub ending : (index answer : ℕ) (out : List ℕ) → OneOf (0 ∷ 15 ∷ []) (numberOf (laid (closing (view b) index answer) out .outcome))
 
+-- ---- where a bad field stands: with 4 comes the offset of the first one in its message, with every other number 0. A run hands back no 4, nor does a laying
+-- a message stands at the position, and its first bad field at this offset in it
+pub record BadThere (s : List ℕ) (at offset : ℕ) : Type 0 where
+  pub bytes : List ℕ
+  pub stands : StandsAt s at bytes
+  pub first : FirstBadIn bytes offset
+
+pub record Offsets (b : Book) : Type 0 where
+  pub reading : (s : List ℕ) → Locates (FirstBadIn s) (numberOf (readOf s .outcome)) (readOf s .offset)
+  pub testing : (m : Message) → Locates (FirstBadOf m) (numberOf (badFieldOf m .outcome)) (badFieldOf m .offset)
+  pub writing : (m : Message) (plain out : List ℕ) → Locates (FirstBadOf m) (numberOf (writeOf m plain out .outcome)) (writeOf m plain out .offset)
+  pub printing : (m : Message) (plain : List ℕ) (sequence second : ℕ) (out : List ℕ)
+      → Locates (FirstBadOf m) (numberOf (lineOf (told b m) m plain sequence second out .outcome)) (lineOf (told b m) m plain sequence second out .offset)
+  pub applying : {s : List ℕ} {at : ℕ} {r : Moved} → Moves b s at r → Locates (BadThere s at) (r .answer) (r .offset)
+
 -- ---- what a refusal leaves
 -- refused, the buffer is as it was and the count 0; done, no byte beyond the count changes
 pub record Printing (w : Write) (out : List ℕ) : Type 0 where
@@ -92,7 +111,7 @@ pub record Printing (w : Write) (out : List ℕ) : Type 0 where
 -- the output: a refused read and a refused write
 pub record Buffers : Type 0 where
   -- no message is handed back, and zeros for its byte array
-  pub reading : (s : List ℕ) (number : ℕ) → readOf s .outcome ≡ refused number → readOf s ≡ noMessage number
+  pub reading : (s : List ℕ) (number : ℕ) → readOf s .outcome ≡ refused number → readOf s ≡ noMessage number (readOf s .offset)
   -- the buffer is as it was, and the count 0
   pub writing : (m : Message) (plain out : List ℕ) (number : ℕ) → writeOf m plain out .outcome ≡ refused number → (writeOf m plain out .out ≡ out) × (countOf (writeOf m plain out .outcome) ≡ 0)
   -- refused or done, no byte beyond the count changes
@@ -199,6 +218,7 @@ pub record Demand1 (b : Book) : Type 0 where
   pub room-numbers : RoomNumbers
   pub book-numbers : BookNumbers b
   pub page-numbers : PageNumbers b
+  pub offsets : Offsets b
   pub buffers : Buffers
   pub pages : Pages b
   pub rooms : Rooms

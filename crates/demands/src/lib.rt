@@ -2,7 +2,7 @@
 //
 // | Of | Statement | Theorem |
 // |---|---|---|
-// | demand 1: the numbers of each call, what a refusal leaves, how far an answer moves, the same every time | specs/Demand1 | demand-1-holds |
+// | demand 1: the numbers of each call, the offset of a bad field, what a refusal leaves, how far an answer moves, the same every time | specs/Demand1 | demand-1-holds |
 // | that every number of demand 1 is given | proofs/EveryNumber | by-wire, by-book, by-message, given-10 |
 // | demand 2: levels, effects, isolation, case D's rule, executions at the price of the order; round trips | specs/Demand2 | demand-2-holds, round-trips |
 // | demand 3: over views; by any calls; from bytes | specs/Demand3 | demand-3-over-views, demand-3-holds, demand-3-from-bytes |

@@ -9,8 +9,12 @@ use borrow.Author.Tests.{ltb-true, ltb-false}
 use lib.Dec.{ltb}
 use lib.ListN.{length}
 use Rattle.wire.specs.Outcome.{refused, numberOf}
+use Rattle.wire.specs.Message.{faultIn}
+use Rattle.wire.specs.FirstBad.{FirstBadOf, Locates}
+use Rattle.wire.specs.declared.Fault.{Fault}
 use Rattle.wire.specs.declared.Message.{Message}
 use Rattle.wire.proofs.Cases.{done-is-not-refused}
+use Rattle.wire.proofs.Offsets.{nowhere, there, fault-is-first}
 use Rattle.places.specs.Places.{among}
 use Rattle.symbols.specs.declared.registering.Listing.{Listing}
 use Rattle.book.specs.State.{view, Wf}
@@ -31,18 +35,37 @@ pub laid-answers : (line out : List ℕ) → among (numberOf (laid line out .out
 unfolding laid
 laid-answers line out = laid-if-answers (ltb (length out) (length line)) line out
 
-by-checks : (no-line bad known late short : Bool) (line out : List ℕ) → ltb (length out) (length line) ≡ short → among (numberOf (lineBy no-line bad known late line out .outcome)) (0 ∷ 3 ∷ 4 ∷ 5 ∷ 14 ∷ 15 ∷ []) ≡ true
+by-checks : (no-line : Bool) (bad : Fault) (known late short : Bool) (line out : List ℕ) → ltb (length out) (length line) ≡ short → among (numberOf (lineBy no-line bad known late line out .outcome)) (0 ∷ 3 ∷ 4 ∷ 5 ∷ 14 ∷ 15 ∷ []) ≡ true
 unfolding lineBy laid among
 by-checks true bad known late short line out e = refl
-by-checks false true known late short line out e = refl
-by-checks false false false late short line out e = refl
-by-checks false false true true short line out e = refl
-by-checks false false true false true line out e = rw e
-by-checks false false true false false line out e = rw e
+by-checks false (Fault.At n) known late short line out e = refl
+by-checks false Fault.Nothing false late short line out e = refl
+by-checks false Fault.Nothing true true short line out e = refl
+by-checks false Fault.Nothing true false true line out e = rw e
+by-checks false Fault.Nothing true false false line out e = rw e
 
 pub line-answers : (s : Listing) (m : Message) (plain : List ℕ) (sequence second : ℕ) (out : List ℕ) → among (numberOf (lineOf s m plain sequence second out .outcome)) (0 ∷ 3 ∷ 4 ∷ 5 ∷ 14 ∷ 15 ∷ []) ≡ true
 unfolding lineOf
 line-answers s m plain sequence second out = by-checks _ _ _ _ _ _ out refl
+
+-- ---- the offset: with a bad field where the first one stands, with every other answer 0
+laid-nowhere : (m : Message) (short : Bool) (line out : List ℕ) → Locates (FirstBadOf m) (numberOf (laidIf short line out .outcome)) (laidIf short line out .offset)
+laid-nowhere m true line out = nowhere (FirstBadOf m) 15 (λ z. omega (arith, z))
+laid-nowhere m false line out = nowhere (FirstBadOf m) 0 (λ z. omega (arith, z))
+
+by-fault : (m : Message) (no-line : Bool) (bad : Fault) → faultIn m ≡ bad → (known late : Bool) (line out : List ℕ)
+    → Locates (FirstBadOf m) (numberOf (lineBy no-line bad known late line out .outcome)) (lineBy no-line bad known late line out .offset)
+unfolding lineBy laid
+by-fault m true bad e known late line out = nowhere (FirstBadOf m) 3 (λ z. omega (arith, z))
+by-fault m false (Fault.At n) e known late line out = there (FirstBadOf m) n (fault-is-first m n e)
+by-fault m false Fault.Nothing e false late line out = nowhere (FirstBadOf m) 5 (λ z. omega (arith, z))
+by-fault m false Fault.Nothing e true true line out = nowhere (FirstBadOf m) 14 (λ z. omega (arith, z))
+by-fault m false Fault.Nothing e true false line out = laid-nowhere m (ltb (length out) (length line)) line out
+
+pub line-locates : (s : Listing) (m : Message) (plain : List ℕ) (sequence second : ℕ) (out : List ℕ)
+    → Locates (FirstBadOf m) (numberOf (lineOf s m plain sequence second out .outcome)) (lineOf s m plain sequence second out .offset)
+unfolding lineOf
+line-locates s m plain sequence second out = by-fault m _ (faultIn m) refl _ _ _ out
 
 -- ---- refused, the buffer is as it was
 laid-if-refused : (short : Bool) (line out : List ℕ) (k : ℕ) → laidIf short line out .outcome ≡ refused k → laidIf short line out .out ≡ out
@@ -53,13 +76,13 @@ pub laid-refused : (line out : List ℕ) (k : ℕ) → laid line out .outcome �
 unfolding laid
 laid-refused line out k e = laid-if-refused (ltb (length out) (length line)) line out k e
 
-by-refusal : (no-line bad known late : Bool) (line out : List ℕ) (k : ℕ) → lineBy no-line bad known late line out .outcome ≡ refused k → lineBy no-line bad known late line out .out ≡ out
+by-refusal : (no-line : Bool) (bad : Fault) (known late : Bool) (line out : List ℕ) (k : ℕ) → lineBy no-line bad known late line out .outcome ≡ refused k → lineBy no-line bad known late line out .out ≡ out
 unfolding lineBy
 by-refusal true bad known late line out k e = refl
-by-refusal false true known late line out k e = refl
-by-refusal false false false late line out k e = refl
-by-refusal false false true true line out k e = refl
-by-refusal false false true false line out k e = laid-refused line out k e
+by-refusal false (Fault.At n) known late line out k e = refl
+by-refusal false Fault.Nothing false late line out k e = refl
+by-refusal false Fault.Nothing true true line out k e = refl
+by-refusal false Fault.Nothing true false line out k e = laid-refused line out k e
 
 pub line-refused : (s : Listing) (m : Message) (plain : List ℕ) (sequence second : ℕ) (out : List ℕ) (k : ℕ) → lineOf s m plain sequence second out .outcome ≡ refused k → lineOf s m plain sequence second out .out ≡ out
 unfolding lineOf

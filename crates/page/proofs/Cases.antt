@@ -7,11 +7,12 @@ use native.Mathlib.Nat.{zero-add}
 use native.Mathlib.Omega.{arith}
 use lib.ListN.{length, take, drop}
 use lib.Seq.{drop-append-seam, paste}
-use lib.Dec.{ltb}
+use lib.Dec.{ltb, eqb}
 use borrow.Author.Tests.{lt-ltb, le-ltb, eq-eqb, ne-eqb}
 use Rattle.wire.specs.Outcome.{done}
 use Rattle.wire.specs.Writing.{Write, refuse, countOf}
-use Rattle.wire.specs.Message.{typeOf, hasBadField}
+use Rattle.wire.specs.Message.{typeOf, faultIn}
+use Rattle.wire.specs.declared.Fault.{Fault}
 use Rattle.wire.specs.declared.Message.{Message}
 use Rattle.symbols.specs.declared.registering.Listing.{Listing}
 use Rattle.columns.specs.Columns.{rendered}
@@ -20,19 +21,19 @@ use Rattle.page.specs.Printing.{hasNoLine, lastSecond, laidIf, laid, App
 
 -- ---- the room
 module _ (line out : List ℕ) where
-  pub laid-short : length out < length line → laid line out ≡ refuse 15 out
+  pub laid-short : length out < length line → laid line out ≡ refuse 15 0 out
   unfolding laid
   laid-short h = rw (lt-ltb _ _ h) refl
 
-  pub laid-fits : length line ≤ length out → laid line out ≡ record { outcome = done (length line); out = line ++ drop (length line) out }
+  pub laid-fits : length line ≤ length out → laid line out ≡ record { outcome = done (length line); offset = 0; out = line ++ drop (length line) out }
   unfolding laid
   laid-fits h = rw (le-ltb _ _ h) refl
 
 -- a line copied by its count from bytes that begin with it, to the start of a buffer
 pub laid-copied : (line bs out : List ℕ) (k : ℕ) → k ≡ length line → take (length line) bs ≡ line → k ≤ length out →
-    record { outcome = done k; out = paste out 0 bs k } ≡ laid line out
+    record { outcome = done k; offset = 0; out = paste out 0 bs k } ≡ laid line out
 laid-copied line bs out k e b h =
-    (λ i. record { outcome = done (e i); out = (ap (λ j. take j bs) e ∙ b) i ++ drop ((zero-add k ∙ e) i) out })
+    (λ i. record { outcome = done (e i); offset = 0; out = (ap (λ j. take j bs) e ∙ b) i ++ drop ((zero-add k ∙ e) i) out })
     ∙ sym (laid-fits line out (omega (arith, e, h)))
 
 -- or behind its first bytes
@@ -41,28 +42,33 @@ appended line bs out after at k e b c = record { count = ap (λ j. at + j) e; ou
 
 -- ---- the checks, in their order
 module _ (s : Listing) (m : Message) (plain : List ℕ) (sequence second : ℕ) (out : List ℕ) where
-  pub line-no-type : hasNoLine (typeOf m) ≡ true → lineOf s m plain sequence second out ≡ refuse 3 out
+  pub line-no-type : hasNoLine (typeOf m) ≡ true → lineOf s m plain sequence second out ≡ refuse 3 0 out
   unfolding lineOf lineBy
   line-no-type h = rw h refl
 
   module _ (type : hasNoLine (typeOf m) ≡ false) where
-    pub line-bad-field : hasBadField m ≡ true → lineOf s m plain sequence second out ≡ refuse 4 out
+    pub line-bad-field : (n : ℕ) → faultIn m ≡ Fault.At n → lineOf s m plain sequence second out ≡ refuse 4 n out
     unfolding lineOf lineBy
-    line-bad-field h = rw (type, h) refl
+    line-bad-field n h = rw (type, h) refl
 
-    module _ (fields : hasBadField m ≡ false) where
-      pub line-no-symbol : (s .answer ≡ 0 → ⊥) → lineOf s m plain sequence second out ≡ refuse 5 out
-      unfolding lineOf lineBy
-      line-no-symbol h = rw (type, fields, ne-eqb _ _ h) refl
+    pub line-fields-good : faultIn m ≡ Fault.Nothing → lineOf s m plain sequence second out ≡ lineBy false Fault.Nothing (eqb (s .answer) 0) (ltb lastSecond second) (rendered (columnsOf s m plain sequence second)) out
+    unfolding lineOf
+    line-fields-good h = rw (type, h) refl
 
-      module _ (known : s .answer ≡ 0) where
-        pub line-bad-second : lastSecond < second → lineOf s m plain sequence second out ≡ refuse 14 out
-        unfolding lineOf lineBy
-        line-bad-second h = rw (type, fields, eq-eqb _ _ known, lt-ltb _ _ h) refl
+-- without a bad field
+module _ (s : Listing) (second : ℕ) (line out : List ℕ) where
+  pub line-no-symbol : (s .answer ≡ 0 → ⊥) → lineBy false Fault.Nothing (eqb (s .answer) 0) (ltb lastSecond second) line out ≡ refuse 5 0 out
+  unfolding lineBy
+  line-no-symbol h = rw (ne-eqb _ _ h) refl
 
-        pub line-good : second ≤ lastSecond → lineOf s m plain sequence second out ≡ laid (rendered (columnsOf s m plain sequence second)) out
-        unfolding lineOf lineBy
-        line-good h = rw (type, fields, eq-eqb _ _ known, le-ltb _ _ h) refl
+  module _ (known : s .answer ≡ 0) where
+    pub line-bad-second : lastSecond < second → lineBy false Fault.Nothing (eqb (s .answer) 0) (ltb lastSecond second) line out ≡ refuse 14 0 out
+    unfolding lineBy
+    line-bad-second h = rw (eq-eqb _ _ known, lt-ltb _ _ h) refl
+
+    pub line-good : second ≤ lastSecond → lineBy false Fault.Nothing (eqb (s .answer) 0) (ltb lastSecond second) line out ≡ laid line out
+    unfolding lineBy
+    line-good h = rw (eq-eqb _ _ known, le-ltb _ _ h) refl
 
 -- ---- what stays in the buffer: the bytes beyond the count, so all of it where a line is refused
 abbrev pub StaysBeyond : Write → List ℕ → Type 0
@@ -76,13 +82,13 @@ pub laid-beyond : (line out : List ℕ) → StaysBeyond (laid line out) out
 unfolding laid
 laid-beyond line out = laid-stays (ltb (length out) (length line)) line out
 
-line-stays : (no-line bad known late : Bool) (line out : List ℕ) → StaysBeyond (lineBy no-line bad known late line out) out
+line-stays : (no-line : Bool) (bad : Fault) (known late : Bool) (line out : List ℕ) → StaysBeyond (lineBy no-line bad known late line out) out
 unfolding lineBy
 line-stays true bad known late line out = refl
-line-stays false true known late line out = refl
-line-stays false false false late line out = refl
-line-stays false false true true line out = refl
-line-stays false false true false line out = laid-beyond line out
+line-stays false (Fault.At n) known late line out = refl
+line-stays false Fault.Nothing false late line out = refl
+line-stays false Fault.Nothing true true line out = refl
+line-stays false Fault.Nothing true false line out = laid-beyond line out
 
 pub bytes-beyond-stay : (s : Listing) (m : Message) (plain : List ℕ) (sequence second : ℕ) (out : List ℕ) → StaysBeyond (lineOf s m plain sequence second out) out
 unfolding lineOf

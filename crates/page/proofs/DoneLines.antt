@@ -23,9 +23,11 @@ use Rattle.book.proofs.Isolation.{own-symbol}
 use Rattle.book.proofs.Reaching.{reached-wf}
 use Rattle.symbols.specs.State.{placeOf}
 use Rattle.feed.specs.Reader.{indexOf}
+use Rattle.columns.specs.Columns.{rendered}
+use Rattle.page.specs.Columns.{columnsOf}
 use Rattle.page.specs.Printing.{hasNoLine, lastSecond, laid, lineOf, told}
 use Rattle.page.specs.Printout.{sequenceOf, doneText, passedText}
-use Rattle.page.proofs.Cases.{line-good}
+use Rattle.page.proofs.Cases.{line-fields-good, line-good}
 use Rattle.page.proofs.Printouts.{passed-done, line-prints}
 
 -- the index that a message means is the one that stands in it
@@ -66,5 +68,6 @@ done-gets-its-line {b = b} p {s = s} {at = at} {n = n} {r = r} moves reach zero 
     let met-it : toldIn (indexIn m) (view (r .book)) .answer ≡ 0 =
     ap (λ (v : View). toldIn (indexIn m) v .answer) (o .next-view ∙ ap (λ (x : Next Symbol). x .view) act)
     ∙ met (view b) m (sym (ap (λ (x : Next Symbol). x .answer) act) ∙ sym (o .answer) ∙ zero) in
-    line-good (told (r .book) m) m plain (sequenceOf place) second out type (read-is-good (take n (drop at s)) m read) met-it day
+    line-fields-good (told (r .book) m) m plain (sequenceOf place) second out type (read-is-good (take n (drop at s)) m read)
+    ∙ line-good (told (r .book) m) second (rendered (columnsOf (told (r .book) m) m plain (sequenceOf place) second)) out met-it day
     ∙ ap (λ (t : List ℕ). laid t out) (sym (passed-done (view (r .book)) (take n (drop at s)) (r .answer) place second zero ∙ ap (λ (x : Outcome Message). doneText (view (r .book)) x plain place second) read ∙ line-prints (view (r .book)) m plain place second type))

@@ -5,9 +5,9 @@ use Prim.Native.Nat.{ℕ, _≤_}
 use lib.ListN.{length, drop}
 use Rattle.wire.specs.Outcome.{done}
 use Rattle.wire.specs.Writing.{refuse}
-use Rattle.wire.specs.Message.{hasBadField}
+use Rattle.wire.specs.Message.{faultIn}
 use Rattle.wire.specs.Table.{shapeOf}
-use Rattle.wire.specs.Fields.{faultOf, faultBy}
+use Rattle.wire.specs.Fields.{firstBad, faultOf}
 use Rattle.columns.specs.Text.{fixed, digitsBy, digits, priced, timed}
 use Rattle.columns.specs.Columns.{rendered}
 use Rattle.page.specs.Columns.{columnsOf}
@@ -20,8 +20,8 @@ unfolding rendered fixed digitsBy digits priced timed
 line-l = refl
 
 -- the line, with its line feed, in any buffer that has room for it
-pub case-l : (out : List ℕ) → length lineL ≤ length out → lineOf abc add firm sequenceL secondL out ≡ record { outcome = done (length lineL); out = lineL ++ drop (length lineL) out }
-unfolding lineOf lineBy hasNoLine hasBadField shapeOf faultOf faultBy
+pub case-l : (out : List ℕ) → length lineL ≤ length out → lineOf abc add firm sequenceL secondL out ≡ record { outcome = done (length lineL); offset = 0; out = lineL ++ drop (length lineL) out }
+unfolding lineOf lineBy hasNoLine faultIn shapeOf faultOf firstBad
 case-l out h = ap (λ x. laid x out) line-l ∙ laid-fits lineL out h
 
 pub price-5-at-scale-4 : priced 4 5 ≡ ascii "0.0005"
@@ -36,6 +36,6 @@ pub last-second-prints : timed 86399 999999999 ≡ ascii "23:59:59.999999999"
 unfolding fixed timed
 last-second-prints = refl
 
-pub second-86400-is-refused : (out : List ℕ) → lineOf abc add firm sequenceL 86400 out ≡ refuse 14 out
-unfolding lineOf lineBy hasNoLine hasBadField shapeOf faultOf faultBy
+pub second-86400-is-refused : (out : List ℕ) → lineOf abc add firm sequenceL 86400 out ≡ refuse 14 0 out
+unfolding lineOf lineBy hasNoLine faultIn shapeOf faultOf firstBad
 second-86400-is-refused out = refl

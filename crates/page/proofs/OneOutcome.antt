@@ -1,4 +1,4 @@
--- The promises leave one outcome: an answer is known from its number and value, and a laying is one equation for each thing that it hands back.
+-- The promises leave one outcome: an answer is known from its number, value and offset, and a laying is one equation for each thing that it hands back.
 use mathlib.Core.Path.{_≡_, refl, sym, ap, _∙_}
 use mathlib.Core.Bool.{Bool, true, false, cond}
 use mathlib.Core.List.{List}
@@ -16,24 +16,24 @@ use Rattle.page.specs.Laying.{Lays}
 use Rattle.page.specs.declared.laying.Laid.{Laid}
 use Rattle.page.specs.declared.Printed.{Printed}
 
--- an answer again, from its number and value
-printedFrom : Outcome ℕ → Printed
-printedFrom (done n) = Printed.Bytes n
-printedFrom (refused k) =
-    cond (eqb k 3) Printed.BadType (cond (eqb k 4) Printed.BadField (cond (eqb k 5) Printed.NoSymbol (cond (eqb k 14) Printed.BadSecond Printed.NoRoom)))
+-- an answer again, from its number, value and offset
+printedFrom : Outcome ℕ → ℕ → Printed
+printedFrom (done n) offset = Printed.Bytes n
+printedFrom (refused k) offset =
+    cond (eqb k 3) Printed.BadType (cond (eqb k 4) (Printed.BadField offset) (cond (eqb k 5) Printed.NoSymbol (cond (eqb k 14) Printed.BadSecond Printed.NoRoom)))
 
-printed-again : (p : Printed) → printedFrom (printedAs p) ≡ p
+printed-again : (p : Printed) → printedFrom (printedAs p .outcome) (printedAs p .offset) ≡ p
 unfolding printedFrom
 printed-again (Printed.Bytes n) = refl
 printed-again Printed.BadType = refl
-printed-again Printed.BadField = refl
+printed-again (Printed.BadField n) = refl
 printed-again Printed.NoSymbol = refl
 printed-again Printed.BadSecond = refl
 printed-again Printed.NoRoom = refl
 
 same-printed : (a b : Printed) (x y : List ℕ) → printed a x ≡ printed b y → (a ≡ b) × (x ≡ y)
 same-printed a b x y e =
-    (sym (printed-again a) ∙ ap (λ (w : Write). printedFrom (w .outcome)) e ∙ printed-again b, ap (λ (w : Write). w .out) e)
+    (sym (printed-again a) ∙ ap (λ (w : Write). printedFrom (w .outcome) (w .offset)) e ∙ printed-again b, ap (λ (w : Write). w .out) e)
 
 -- two results that meet the promise of a call on the same input are equal, buffers included
 module _ (b : Book) (out x y : List ℕ) where

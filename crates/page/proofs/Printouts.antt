@@ -24,12 +24,13 @@ use Rattle.columns.specs.Columns.{number, rendered}
 use Rattle.columns.specs.Held.{room}
 use Rattle.page.specs.Columns.{columnsOf}
 use Rattle.page.specs.Printing.{hasNoLine}
-use Rattle.page.specs.Printout.{letterE, letterQ, refusal, sequenceOf, doneText, passedText, endText, levelColumns, quoteColumns, quoteText}
+use Rattle.page.specs.Printout.{letterR, letterE, letterQ, offsetIf, refusal, sequenceOf, doneText, passedText, endText, levelColumns, quoteColumns, quoteText}
 use Rattle.columns.proofs.Lengths.{total, widths, line-within-widths}
 
 -- ---- room
-pub refusal-has-room : (answer place : ℕ) → length (rendered (refusal answer place)) ≤ room
-refusal-has-room answer place = le-trans (line-within-widths (refusal answer place)) (omega arith)
+pub refusal-within : (bad : Bool) (answer offset place : ℕ) → length (rendered (letterR ∷ number answer ∷ number place ∷ offsetIf bad offset)) ≤ room
+refusal-within true answer offset place = le-trans (line-within-widths (letterR ∷ number answer ∷ number place ∷ number offset ∷ [])) (omega arith)
+refusal-within false answer offset place = le-trans (line-within-widths (letterR ∷ number answer ∷ number place ∷ [])) (omega arith)
 
 -- the quote at any scale that a byte can hold, with the end before it
 quote-within : (scale : ℕ) (x : Quote) (shown : Bool) → scale < 256 → length (rendered (letterQ ∷ quoteColumns shown scale x)) + 30 ≤ room
@@ -58,9 +59,17 @@ pub quote-refused : (scale : ℕ) (x : Quote) → (x .answer ≡ 0 → ⊥) → 
 unfolding quoteText
 quote-refused scale x h = rw (ne-eqb _ _ h) refl
 
+-- ---- a refusal: with a bad field its offset, and nothing with any other answer
+module _ (answer offset place : ℕ) where
+  pub refusal-bad-field : answer ≡ 4 → refusal answer offset place ≡ letterR ∷ number answer ∷ number place ∷ number offset ∷ []
+  refusal-bad-field h = rw (eq-eqb _ _ h) refl
+
+  pub refusal-other : (answer ≡ 4 → ⊥) → refusal answer offset place ≡ letterR ∷ number answer ∷ number place ∷ []
+  refusal-other h = rw (ne-eqb _ _ h) refl
+
 -- ---- a message that was passed over
 module _ (v : View) (m : List ℕ) (answer place second : ℕ) where
-  pub passed-refused : (answer ≡ 0 → ⊥) → passedText (record { view = v; answer = answer }) m place second ≡ rendered (refusal answer place)
+  pub passed-refused : (answer ≡ 0 → ⊥) → passedText (record { view = v; answer = answer }) m place second ≡ rendered (refusal answer (readOf m .offset) place)
   unfolding passedText
   passed-refused h = rw (ne-eqb _ _ h) refl
 
@@ -69,12 +78,12 @@ module _ (v : View) (m : List ℕ) (answer place second : ℕ) where
   passed-done h = rw (eq-eqb _ _ h) refl
 
 -- of what was not read nothing is printed
-pub unread-prints : (v : View) (a : Answer) (plain : List ℕ) (place second : ℕ) → OneOf (1 ∷ 2 ∷ 3 ∷ 4 ∷ []) (tagOf answer.the-type a) → doneText v (answeredAs a) plain place second ≡ []
+pub unread-prints : (v : View) (a : Answer) (plain : List ℕ) (place second : ℕ) → OneOf (1 ∷ 2 ∷ 3 ∷ 4 ∷ []) (tagOf answer.the-type a) → doneText v (answeredAs a .outcome) plain place second ≡ []
 unread-prints v (Answer.Message m) plain place second k = absurd (miss (1 ∷ 2 ∷ 3 ∷ 4 ∷ []) 0 tt k)
 unread-prints v Answer.Short plain place second k = refl
 unread-prints v Answer.BadSize plain place second k = refl
 unread-prints v Answer.BadType plain place second k = refl
-unread-prints v Answer.BadField plain place second k = refl
+unread-prints v (Answer.BadField n) plain place second k = refl
 
 module _ (v : View) (m : Message) (plain : List ℕ) (place second : ℕ) where
   pub no-line-prints : hasNoLine (typeOf m) ≡ true → doneText v (done m) plain place second ≡ []

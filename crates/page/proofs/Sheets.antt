@@ -3,7 +3,7 @@ use mathlib.Core.Bool.{true, false, true≢false, false≢true}
 use mathlib.Core.List.{List, [], _++_}
 use mathlib.Core.Path.{_≡_, refl, sym, ap, _∙_}
 use Prim.Native.Nat.{ℕ, zero, suc, _+_, _-_, _<_, _≤_}
-use native.Mathlib.Nat.{not-suc-le-zero, add-sub-cancel-left}
+use native.Mathlib.Nat.{not-suc-le-zero}
 use native.Mathlib.Omega.{arith}
 use borrow.Author.Tests.{lt-ltb, le-ltb}
 use lib.ListN.{length, take, drop, length-append}
@@ -16,7 +16,7 @@ use Rattle.book.specs.Step.{stepOf}
 use Rattle.book.specs.Walk.{landing, stopping, moveBy, moveOf, walkFor, walkOf, Moves}
 use Rattle.book.specs.declared.Book.{Book}
 use Rattle.book.specs.declared.walk.Moved.{Moved}
-use Rattle.book.proofs.Walking.{move-within}
+use Rattle.book.proofs.Walking.{move-within, passed-bytes}
 use Rattle.columns.specs.Held.{room}
 use Rattle.page.specs.Printing.{lastSecond, Appends}
 use Rattle.page.specs.Printout.{passedText, nextPlace}
@@ -140,7 +140,7 @@ module _ {b₀ : Book} {stream : List ℕ} {from place second : ℕ} {before : L
             let least = reached (drop here stream) z e .least in
             let to : r .at ≡ here + z = m .at ∙ ap (λ (x : Outcome ℕ). landing x here) e in
             let size : length (take z (drop here stream)) ≡ z = length-take-le z (drop here stream) (reached (drop here stream) z e .there) in
-            let bytes : take (r .at - here) (drop here stream) ≡ take z (drop here stream) = ap (λ (j : ℕ). take (j - here) (drop here stream)) to ∙ ap (λ (j : ℕ). take j (drop here stream)) (add-sub-cancel-left here z) in
+            let bytes = passed-bytes b stream here r m z e in
             let after-it : Wf b₀ → record { view = view (r .book); answer = r .answer } ≡ stepOf (view b) (readOf (take z (drop here stream))) =
             (λ w. let o = m .obeys (l .sound w) in (λ i. record { view = o .next-view i; answer = o .answer i }) ∙ ap (λ (x : Outcome ℕ). moveBy x (view b) stream here) e) in
             record {

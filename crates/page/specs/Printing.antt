@@ -5,9 +5,10 @@ use mathlib.Core.List.{List, _++_}
 use mathlib.Core.Bool.{Bool, true, false, cond, not}
 use lib.ListN.{length, take, drop}
 use lib.Dec.{ltb, eqb}
-use Rattle.wire.specs.Outcome.{Outcome, done, refused}
-use Rattle.wire.specs.Writing.{Write, refuse}
-use Rattle.wire.specs.Message.{typeOf, indexIn, hasBadField}
+use Rattle.wire.specs.Outcome.{Answered, done, refused, only, badAt}
+use Rattle.wire.specs.Writing.{Write, leaving, refuse}
+use Rattle.wire.specs.Message.{typeOf, indexIn, faultIn}
+use Rattle.wire.specs.declared.Fault.{Fault}
 use Rattle.wire.specs.declared.Message.{Message}
 use Rattle.book.specs.State.{view}
 use Rattle.book.specs.Registering.{toldIn}
@@ -17,18 +18,18 @@ use Rattle.columns.specs.Columns.{rendered}
 use Rattle.page.specs.Columns.{columnsOf}
 use Rattle.page.specs.declared.Printed.{Printed}
 
--- document 01's number and value of each case
-abbrev pub printedAs : Printed → Outcome ℕ
-printedAs (Printed.Bytes n) = done n
-printedAs Printed.BadType = refused 3
-printedAs Printed.BadField = refused 4
-printedAs Printed.NoSymbol = refused 5
-printedAs Printed.BadSecond = refused 14
-printedAs Printed.NoRoom = refused 15
+-- document 01's number and value of each case, and the offset
+abbrev pub printedAs : Printed → Answered ℕ
+printedAs (Printed.Bytes n) = only (done n)
+printedAs Printed.BadType = only (refused 3)
+printedAs (Printed.BadField n) = badAt n
+printedAs Printed.NoSymbol = only (refused 5)
+printedAs Printed.BadSecond = only (refused 14)
+printedAs Printed.NoRoom = only (refused 15)
 
 -- what printing answers, and what it leaves in the buffer
 abbrev pub printed : Printed → List ℕ → Write
-printed p out = record { outcome = printedAs p; out = out }
+printed p out = leaving (printedAs p) out
 
 -- only an add (100) and a cross (111) have a line
 unfoldable pub hasNoLine : ℕ → Bool
@@ -39,8 +40,8 @@ lastSecond = 86399
 
 -- is the buffer shorter than the line?
 abbrev pub laidIf : Bool → List ℕ → List ℕ → Write
-laidIf true line out = refuse 15 out
-laidIf false line out = record { outcome = done (length line); out = line ++ drop (length line) out }
+laidIf true line out = refuse 15 0 out
+laidIf false line out = record { outcome = done (length line); offset = 0; out = line ++ drop (length line) out }
 
 unfoldable pub laid : List ℕ → List ℕ → Write
 laid line out = laidIf (ltb (length out) (length line)) line out
@@ -50,18 +51,18 @@ pub record Appends (line : List ℕ) (at : ℕ) (before : List ℕ) (r : ℕ) (a
   pub count : r ≡ at + length line
   pub out : after ≡ take at before ++ line ++ drop (at + length line) before
 
--- one clause for each check: has the type no line, a field a fault, is the symbol known, the second past the day?
-unfoldable pub lineBy : Bool → Bool → Bool → Bool → List ℕ → List ℕ → Write
-lineBy true bad known late line out = refuse 3 out
-lineBy false true known late line out = refuse 4 out
-lineBy false false false late line out = refuse 5 out
-lineBy false false true true line out = refuse 14 out
-lineBy false false true false line out = laid line out
+-- one clause for each check: has the type no line, which field is bad, is the symbol known, the second past the day?
+unfoldable pub lineBy : Bool → Fault → Bool → Bool → List ℕ → List ℕ → Write
+lineBy true bad known late line out = refuse 3 0 out
+lineBy false (Fault.At n) known late line out = refuse 4 n out
+lineBy false Fault.Nothing false late line out = refuse 5 0 out
+lineBy false Fault.Nothing true true line out = refuse 14 0 out
+lineBy false Fault.Nothing true false line out = laid line out
 
 -- the line of a message at the start of out, by what is told of its symbol
 unfoldable pub lineOf : Listing → Message → List ℕ → ℕ → ℕ → List ℕ → Write
 lineOf s m plain sequence second out =
-    lineBy (hasNoLine (typeOf m)) (hasBadField m) (eqb (s .answer) 0) (ltb lastSecond second) (rendered (columnsOf s m plain sequence second)) out
+    lineBy (hasNoLine (typeOf m)) (faultIn m) (eqb (s .answer) 0) (ltb lastSecond second) (rendered (columnsOf s m plain sequence second)) out
 
 -- what a book tells of a message's symbol
 abbrev pub told : Book → Message → Listing

@@ -34,9 +34,14 @@ letterQ = letter 81
 
 -- ---- a message that was passed over, by its answer and the view after it
 
--- a refusal before the stop: `R,answer,place`
-abbrev pub refusal : ℕ → ℕ → List Column
-refusal answer place = letterR ∷ number answer ∷ number place ∷ []
+-- with a bad field, and with nothing else, its offset in the message
+abbrev pub offsetIf : Bool → ℕ → List Column
+offsetIf true offset = number offset ∷ []
+offsetIf false offset = []
+
+-- a refusal before the stop: `R,answer,place`, and with a bad field `R,4,place,offset`
+abbrev pub refusal : ℕ → ℕ → ℕ → List Column
+refusal answer offset place = letterR ∷ number answer ∷ number place ∷ offsetIf (eqb answer 4) offset
 
 -- the place is the line's sequence number, which has 32 bits
 abbrev pub sequences : ℕ
@@ -55,7 +60,7 @@ doneText v (refused a) plain place second = []
 doneText v (done m) plain place second = lineIf (hasNoLine (typeOf m)) (rendered (columnsOf (toldIn (indexIn m) v) m plain (sequenceOf place) second))
 
 unfoldable pub passedText : Next Symbol → List ℕ → ℕ → ℕ → List ℕ
-passedText x m place second = cond (eqb (x .answer) 0) (doneText (x .view) (readOf m .outcome) (readOf m .plain) place second) (rendered (refusal (x .answer) place))
+passedText x m place second = cond (eqb (x .answer) 0) (doneText (x .view) (readOf m .outcome) (readOf m .plain) place second) (rendered (refusal (x .answer) (readOf m .offset) place))
 
 -- ---- messages one behind the other: each has the next place, and the answer and the view that the rules give it
 

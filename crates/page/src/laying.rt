@@ -67,7 +67,7 @@ pub fn lay(book: Book, stream: &[u8], at: usize, place: u64, second: u32, out: &
         let next = m.book;
         let end = m.at;
         p = std::num::wrapping_add_u64(p, 1);
-        let l = passed_line(next, &stream[here..end], m.answer, p, second);
+        let l = passed_line(next, &stream[here..end], m.answer, m.offset, p, second);
         n = append(l, out, n);
         b = next;
         here = end;

@@ -15,11 +15,11 @@ ghost use Rattle.wire.specs.Outcome.{numberOf};
 ghost use Rattle.wire.specs.Writing.{countOf};
 ghost use Rattle.page.specs.Printing.{printedAs};
 
-// What printing a line answers: how many bytes, or why none.
+// What printing a line answers: how many bytes, or why none. A bad field comes with the offset of the first one.
 pub enum Printed {
     Bytes(usize),
     BadType,
-    BadField,
+    BadField(usize),
     NoSymbol,
     BadSecond,
     NoRoom,
@@ -27,12 +27,12 @@ pub enum Printed {
 
 // Document 01's number of what printing answered.
 pub fn number_of_line(p: Printed) -> u8
-    ensures { λ r. ⌜ r ≡ numberOf (printedAs p) ⌝ }
+    ensures { λ r. ⌜ r ≡ numberOf (printedAs p .outcome) ⌝ }
 {
     match p {
         Printed::Bytes(_) => 0,
         Printed::BadType => 3,
-        Printed::BadField => 4,
+        Printed::BadField(_) => 4,
         Printed::NoSymbol => 5,
         Printed::BadSecond => 14,
         Printed::NoRoom => 15,
@@ -41,12 +41,26 @@ pub fn number_of_line(p: Printed) -> u8
 
 // How many bytes were printed: none when refused.
 pub fn count_of_line(p: Printed) -> usize
-    ensures { λ r. ⌜ r ≡ countOf (printedAs p) ⌝ }
+    ensures { λ r. ⌜ r ≡ countOf (printedAs p .outcome) ⌝ }
 {
     match p {
         Printed::Bytes(n) => n,
         Printed::BadType => 0,
-        Printed::BadField => 0,
+        Printed::BadField(_) => 0,
+        Printed::NoSymbol => 0,
+        Printed::BadSecond => 0,
+        Printed::NoRoom => 0,
+    }
+}
+
+// The offset of the first bad field, with a 4; with every other number 0.
+pub fn offset_of_line(p: Printed) -> usize
+    ensures { λ r. ⌜ r ≡ printedAs p .offset ⌝ }
+{
+    match p {
+        Printed::Bytes(_) => 0,
+        Printed::BadType => 0,
+        Printed::BadField(n) => n,
         Printed::NoSymbol => 0,
         Printed::BadSecond => 0,
         Printed::NoRoom => 0,

@@ -6,14 +6,20 @@ use columns::Line;
 use columns::ROOM;
 use columns::count;
 use symbols::Listing;
+use wire::Fault;
 use wire::Message;
 use wire::PLAIN;
 ghost use mathlib.Core.Path.{_≡_};
+ghost use mathlib.Core.Bool.{false};
 ghost use Prim.Native.Nat.{_+_, _≤_};
+ghost use lib.Dec.{eqb, ltb};
 ghost use lib.ListN.{length};
 ghost use lib.Seq.{paste};
+ghost use Rattle.wire.specs.declared.Fault.{Fault};
+ghost use Rattle.columns.specs.Columns.{rendered};
 ghost use Rattle.columns.specs.Held.{held, room};
-ghost use Rattle.page.specs.Printing.{printed, hasNoLine, laid, lineOf, told, Appends};
+ghost use Rattle.page.specs.Columns.{columnsOf};
+ghost use Rattle.page.specs.Printing.{printed, hasNoLine, lastSecond, laid, lineBy, lineOf, told, Appends};
 
 // The last second of a day.
 pub(crate) const LAST_SECOND: u32 = 86399;
@@ -45,13 +51,28 @@ fn line_told(
 ) -> Printed
     ensures { λ r. ⌜ printed r (now (out .exit)) ≡ lineOf s m plain sequence second (now (out .entry)) ⌝ }
 {
-    let answer = s.answer;
     if has_no_line(wire::type_of(m)) {
         return Printed::BadType;
     }
-    if wire::has_bad_field(m) {
-        return Printed::BadField;
+    let fault = wire::bad_field(m);
+    match fault {
+        Fault::At(n) => Printed::BadField(n),
+        Fault::Nothing => line_good(s, m, plain, sequence, second, out),
     }
+}
+
+// The line of a message without a bad field: 5, 14, 15.
+fn line_good(
+    s: Listing,
+    m: Message,
+    plain: [u8; PLAIN],
+    sequence: u32,
+    second: u32,
+    out: &mut [u8],
+) -> Printed
+    ensures { λ r. ⌜ printed r (now (out .exit)) ≡ lineBy false Fault.Nothing (eqb (s .answer) 0) (ltb lastSecond second) (rendered (columnsOf s m plain sequence second)) (now (out .entry)) ⌝ }
+{
+    let answer = s.answer;
     if answer != 0 {
         return Printed::NoSymbol;
     }

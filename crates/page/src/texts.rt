@@ -13,6 +13,7 @@ use orders::Level;
 use wire::Answer;
 ghost use mathlib.Core.List.{_++_};
 ghost use mathlib.Core.Path.{_≡_};
+ghost use Rattle.wire.specs.Reading.{readOf};
 ghost use Rattle.book.specs.State.{view};
 ghost use Rattle.columns.specs.Columns.{further, rendered};
 ghost use Rattle.columns.specs.Held.{held, Adds};
@@ -21,13 +22,21 @@ ghost use Rattle.page.specs.Printout.{refusal, passedText, endText, leve
 // A line's sequence number has 32 bits.
 const SEQUENCES: u64 = 4294967296;
 
-// Of a message with its answer and its place in the file, by the state after it: the line of a done 100 or 111, `R,answer,place` of a refused one, nothing of any
-// other.
-pub(crate) fn passed_line(book: Book, message: &[u8], answer: u8, place: u64, second: u32) -> Line
+// Of a message with its answer, its offset and its place in the file, by the state after it: the line of a done 100 or 111, `R,answer,place` of a refused one and
+// with a bad field `R,4,place,offset`, nothing of any other.
+pub(crate) fn passed_line(
+    book: Book,
+    message: &[u8],
+    answer: u8,
+    offset: usize,
+    place: u64,
+    second: u32,
+) -> Line
+    requires { ⌜ offset ≡ readOf (now message) .offset ⌝ }
     ensures { λ r. ⌜ held r ≡ passedText (record { view = view book; answer = answer }) (now (message .entry)) place second ⌝ }
 {
     if answer != 0 {
-        return refusal_line(answer, place);
+        return refusal_line(answer, offset, place);
     }
     let d = wire::decode(message);
     let a = d.answer;
@@ -42,12 +51,15 @@ pub(crate) fn passed_line(book: Book, message: &[u8], answer: u8, place: u64, se
     line_of(s, m, plain, (place % SEQUENCES) as u32, second)
 }
 
-fn refusal_line(answer: u8, place: u64) -> Line
-    ensures { λ r. ⌜ held r ≡ rendered (refusal answer place) ⌝ }
+fn refusal_line(answer: u8, offset: usize, place: u64) -> Line
+    ensures { λ r. ⌜ held r ≡ rendered (refusal answer offset place) ⌝ }
 {
     let r = push(blank(), b'R');
     let a = number_column(r, answer as u64);
     let p = number_column(a, place);
+    if answer == 4 {
+        return push(number_column(p, offset as u64), b'\n');
+    }
     push(p, b'\n')
 }
 

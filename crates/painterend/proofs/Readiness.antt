@@ -96,7 +96,7 @@ module _ (l : Laid) (size : ℕ) (buffer sheet : List ℕ) (x : Laid) (out : Lis
       }
 
 -- ---- the end is laid
-pub end-laid : (text before out : List ℕ) (p : Printed) (n : ℕ) → length text ≤ room → room ≤ length before → printed p out ≡ laid text before → n ≡ countOf (printedAs p) → (take n out ≡ text) × (n ≤ length out)
+pub end-laid : (text before out : List ℕ) (p : Printed) (n : ℕ) → length text ≤ room → room ≤ length before → printed p out ≡ laid text before → n ≡ countOf (printedAs p .outcome) → (take n out ≡ text) × (n ≤ length out)
 end-laid text before out p n short long e count =
     let whole = e ∙ laid-fits text before (omega (arith, short, long)) in
     let bytes : out ≡ text ++ drop (length text) before = ap (λ (w : Write). w .out) whole in

@@ -56,6 +56,7 @@ fn step(b: Book, c: &[u8]) -> Book {
     let r = b.apply(rest(c, 5), number16(c, 1) as usize);
     shown::answer(r.answer);
     shown::position(r.at);
+    shown::offset(r.offset);
     r.book
 }
 
@@ -95,6 +96,7 @@ fn read(c: &[u8]) {
             let a = d.answer;
             shown::answer(wire::number_of_answer(a));
             shown::position(at + n);
+            shown::offset(wire::offset_of_answer(a));
         }
         Reach::Short => {
             shown::answer(1);
@@ -114,11 +116,17 @@ fn untouched() -> [u8; ROOM]
     [0xAA; ROOM]
 }
 
+// Of bytes that did not read as a message.
+fn unread(a: Answer) {
+    shown::answer(wire::number_of_answer(a));
+    shown::offset(wire::offset_of_answer(a));
+}
+
 fn write(c: &[u8]) {
     let d = wire::decode(rest(c, 9));
     let a = d.answer;
     let Answer::Message(m) = a else {
-        shown::answer(wire::number_of_answer(a));
+        unread(a);
         return;
     };
     let room = number16(c, 5) as usize;
@@ -135,13 +143,14 @@ fn write_into(m: Message, plain: [u8; PLAIN], out: &mut [u8]) {
     shown::answer(wire::number_of_written(w));
     shown::position(wire::count_of_written(w));
     shown::bytes(out);
+    shown::offset(wire::offset_of_written(w));
 }
 
 fn line(b: Book, c: &[u8]) {
     let d = wire::decode(rest(c, 17));
     let a = d.answer;
     let Answer::Message(m) = a else {
-        shown::answer(wire::number_of_answer(a));
+        unread(a);
         return;
     };
     let room = number16(c, 13) as usize;
@@ -165,4 +174,5 @@ fn line_into(b: Book, m: Message, plain: [u8; PLAIN], sequence: u32, second: u32
     shown::answer(page::number_of_line(p));
     shown::position(page::count_of_line(p));
     shown::bytes(out);
+    shown::offset(page::offset_of_line(p));
 }

@@ -19,6 +19,13 @@ pub(crate) fn position(n: usize) {
     number(n as u64);
 }
 
+// The offset of a bad field, which stands at the end of a line; with none it is 0, and nothing stands there.
+pub(crate) fn offset(n: usize) {
+    if n != 0 {
+        position(n);
+    }
+}
+
 pub(crate) fn end() {
     io::write_all(STDOUT_FILENO, b"\n");
 }

@@ -12,6 +12,7 @@ use libc::STDOUT_FILENO;
 use shown::print_bytes;
 use shown::print_message;
 use shown::print_number;
+use shown::print_offset;
 use wire::Answer;
 use wire::Reach;
 ghost use mathlib.Core.Path.{_≡_};
@@ -64,6 +65,7 @@ fn decode_call(c: &[u8]) -> usize
     io::write_all(STDOUT_FILENO, b"D");
     print_number(wire::number_of_answer(a) as u64);
     print_bytes(&d.plain);
+    print_offset(wire::offset_of_answer(a));
     if let Answer::Message(m) = a {
         print_message(m);
     }
@@ -82,6 +84,7 @@ fn write_made(c: &[u8], out: &mut [u8]) {
     print_number(wire::number_of_written(w) as u64);
     print_number(wire::count_of_written(w) as u64);
     print_bytes(out);
+    print_offset(wire::offset_of_written(w));
 }
 
 // Bytes that a write should not touch show as aa.

@@ -17,6 +17,13 @@ pub(crate) fn print_number(n: u64) {
     io::print_decimal(STDOUT_FILENO, n);
 }
 
+// The offset of a bad field; with none it is 0, and nothing stands there.
+pub(crate) fn print_offset(n: usize) {
+    if n != 0 {
+        print_number(n as u64);
+    }
+}
+
 pub(crate) fn print_bytes(b: &[u8]) {
     io::write_all(STDOUT_FILENO, b",");
     let mut i = 0;

@@ -9,9 +9,10 @@ use lib.ListN.{length}
 use borrow.Author.Tests.{eqb-true}
 use Rattle.wire.specs.Outcome.{Outcome, done, refused}
 use Rattle.wire.specs.Table.{Row, table, layoutOf, find, shapeOf}
-use Rattle.wire.specs.Fields.{fieldsAt, faultBy, faultOf}
+use Rattle.wire.specs.Fields.{fieldsAt, faultOf}
 use Rattle.wire.specs.Message.{messageOf, typeOf}
 use Rattle.wire.specs.Reading.{leastSize, msgSize, msgType, reachBy, reachOf, readBy, readBody, readSized, readShape, readTyped, readReached, readOf}
+use Rattle.wire.specs.declared.Fault.{Fault}
 use Rattle.wire.specs.declared.Message.{Message}
 use Rattle.wire.proofs.Cases.{done-is-not-refused}
 
@@ -29,19 +30,15 @@ table-typed : AllTyped table
 table-typed = ((λ s. refl), ((λ s. refl), ((λ s. refl), ((λ s. refl), ((λ s. refl), ((λ s. refl), ((λ s. refl), ((λ s. refl), ((λ s. refl), ((λ s. refl), ((λ s. refl), ((λ s. refl), ((λ s. refl), tt)))))))))))))
 
 module _ (s : List ℕ) where
-  by-fields : (r : Row) → typeOf (messageOf (r .kind) (fieldsAt s (layoutOf r))) ≡ r .number → (nanos volume flag side : Bool) →
-      Tells (r .number) (readBy (faultBy nanos volume flag side (layoutOf r)) s (layoutOf r) .outcome)
-  unfolding readBy faultBy
-  by-fields r t true volume flag side = omega arith
-  by-fields r t false true flag side = omega arith
-  by-fields r t false false true side = omega arith
-  by-fields r t false false false true = omega arith
-  by-fields r t false false false false = t
+  by-fields : (r : Row) → typeOf (messageOf (r .kind) (fieldsAt s (layoutOf r))) ≡ r .number → (x : Fault) → Tells (r .number) (readBy x s (layoutOf r) .outcome)
+  unfolding readBy
+  by-fields r t (Fault.At n) = omega arith
+  by-fields r t Fault.Nothing = t
 
   by-size : (r : Row) → typeOf (messageOf (r .kind) (fieldsAt s (layoutOf r))) ≡ r .number → (right : Bool) → Tells (r .number) (readSized right s (layoutOf r) .outcome)
-  unfolding readSized readBody faultOf
+  unfolding readSized readBody
   by-size r t false = omega arith
-  by-size r t true = by-fields r t _ _ _ _
+  by-size r t true = by-fields r t (faultOf (layoutOf r) (fieldsAt s (layoutOf r)))
 
   by-row : (n size : ℕ) (rs : List Row) → AllTyped rs → Tells n (readShape (find n rs) s size .outcome)
   unfolding readShape

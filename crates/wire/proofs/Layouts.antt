@@ -1,5 +1,5 @@
 -- What holds of every row of the table holds of the layout of a known type.
-use mathlib.Core.Path.{_≡_, refl, sym, subst}
+use mathlib.Core.Path.{_≡_, refl, sym, ap, subst}
 use mathlib.Core.List.{List, [], _∷_}
 use mathlib.Core.Bool.{Bool, true, false, cond}
 use Prim.Native.Nat.{ℕ}
@@ -32,3 +32,11 @@ table-sane = (omega arith, (omega arith, (omega arith, (omega arith, (omega arit
 
 pub layout-sane : (n : ℕ) (l : Layout) → shapeOf n ≡ Shape.Known l → Sane l
 layout-sane = by-rows (λ n l. Sane l) table-sane
+
+-- ---- and what holds of a type's own row holds of its layout
+abbrev pub layoutIn : Shape → Layout → Layout
+layoutIn Shape.Unknown d = d
+layoutIn (Shape.Known l) d = l
+
+pub at-row : (P : Layout → Type 0) (n : ℕ) (l : Layout) → shapeOf n ≡ Shape.Known l → P (layoutIn (shapeOf n) l) → P l
+at-row P n l e p = subst P (ap (λ (x : Shape). layoutIn x l) e) p

@@ -7,6 +7,9 @@ pub mod Rows
 pub mod Images
 pub mod RoundTrip
 pub mod OneOutcome
+pub mod Checks
+pub mod Offsets
+pub mod EveryField
 pub mod Types
 pub mod Answers
 pub mod GoodFields

@@ -17,7 +17,7 @@ use Rattle.wire.specs.Reading.{leastSize, msgSize, msgType, reachBy, rea
 use Rattle.wire.specs.Writing.{Write, refuse, Fills, imageOf, writeSized, writeBy, writeShape, writeOf}
 use Rattle.wire.specs.declared.table.Layout.{Layout}
 use Rattle.wire.specs.declared.table.Shape.{Shape}
-use Rattle.wire.specs.declared.fields.Fault.{Fault}
+use Rattle.wire.specs.declared.Fault.{Fault}
 use Rattle.wire.specs.declared.Message.{Message}
 use Rattle.wire.proofs.Cases.{done-is-not-refused, reached, reach-size, own-size, read-reached}
 use Rattle.wire.proofs.Types.{IsKnown, type-known}
@@ -42,30 +42,30 @@ reach-refused P short small s n = go (ltb (length s) leastSize) (ltb (msgSize s)
 -- ---- reading: a refusal hands back no message, and zeros
 pub record ReadRefused (P : ℕ → Type 0) (d : Read) (n : ℕ) : Type 0 where
   pub number : P n
-  pub nothing : d ≡ noMessage n
+  pub nothing : d ≡ noMessage n (d .offset)
 
 module _ (P : ℕ → Type 0) where
   abbrev RefusesBy : Read → Type 0
   RefusesBy d = (n : ℕ) → d .outcome ≡ refused n → ReadRefused P d n
 
-  refuses : (k : ℕ) → P k → RefusesBy (noMessage k)
-  refuses k h n e = record { number = same-number P k n h e; nothing = ap noMessage (ap numberOf e) }
+  refuses : (k offset : ℕ) → P k → RefusesBy (noMessage k offset)
+  refuses k offset h n e = record { number = same-number P k n h e; nothing = ap (λ j. noMessage j offset) (ap numberOf e) }
 
   module _ (size : P 2) (type : P 3) (field : P 4) (s : List ℕ) where
     -- what holds of 2, 3 and 4 holds of the refusal of a message that is reached
     by-fault : (l : Layout) (x : Fault) → RefusesBy (readBy x s l)
     unfolding readBy
-    by-fault l (Fault.At k) = refuses 4 field
+    by-fault l (Fault.At k) = refuses 4 k field
     by-fault l Fault.Nothing = λ n e. absurd (done-is-not-refused (sym e))
 
     by-size : (l : Layout) (right : Bool) → RefusesBy (readSized right s l)
     unfolding readSized readBody
-    by-size l false = refuses 2 size
+    by-size l false = refuses 2 0 size
     by-size l true = by-fault l (faultOf l (fieldsAt s l))
 
     by-shape : (n : ℕ) (x : Shape) → RefusesBy (readShape x s n)
     unfolding readShape
-    by-shape n Shape.Unknown = refuses 3 type
+    by-shape n Shape.Unknown = refuses 3 0 type
     by-shape n (Shape.Known l) = by-size l (eqb n (l .size))
 
     pub typed-refused : (n : ℕ) → RefusesBy (readTyped s n)
@@ -76,7 +76,7 @@ module _ (P : ℕ → Type 0) where
     module _ (short : P 1) where
       by-reach : (x : Outcome ℕ) → ((n : ℕ) → x ≡ refused n → P n) → RefusesBy (readReached x s)
       unfolding readReached
-      by-reach (refused k) h = refuses k (h k refl)
+      by-reach (refused k) h = refuses k 0 (h k refl)
       by-reach (done n) h = typed-refused n
 
       pub read-refused : RefusesBy (readOf s)
@@ -97,25 +97,25 @@ reached-refused P size type field s n e k q =
 -- ---- writing: a refusal leaves the buffer
 pub record WriteRefused (P : ℕ → Type 0) (out : List ℕ) (w : Write) (n : ℕ) : Type 0 where
   pub number : P n
-  pub untouched : w ≡ refuse n out
+  pub untouched : w ≡ refuse n (w .offset) out
 
 module _ (m : Message) (plain out : List ℕ) where
   module _ (P : ℕ → Type 0) (field : P 4) (room : P 15) where
     abbrev Leaves : Write → Type 0
     Leaves w = (n : ℕ) → w .outcome ≡ refused n → WriteRefused P out w n
 
-    leaves : (k : ℕ) → P k → Leaves (refuse k out)
-    leaves k h n e = record { number = same-number P k n h e; untouched = ap (λ (i : ℕ). refuse i out) (ap numberOf e) }
+    leaves : (k offset : ℕ) → P k → Leaves (refuse k offset out)
+    leaves k offset h n e = record { number = same-number P k n h e; untouched = ap (λ (i : ℕ). refuse i offset out) (ap numberOf e) }
 
-    by-room : (l : Layout) (short : Bool) → Leaves (writeSized short l m plain out)
+    by-room : (size : ℕ) (image : List ℕ) (short : Bool) → Leaves (writeSized short size image out)
     unfolding writeSized
-    by-room l true = leaves 15 room
-    by-room l false = λ n e. absurd (done-is-not-refused (sym e))
+    by-room size image true = leaves 15 0 room
+    by-room size image false = λ n e. absurd (done-is-not-refused (sym e))
 
     by-field : (l : Layout) (x : Fault) → Leaves (writeBy x l m plain out)
     unfolding writeBy
-    by-field l (Fault.At n) = leaves 4 field
-    by-field l Fault.Nothing = by-room l (ltb (length out) (l .size))
+    by-field l (Fault.At n) = leaves 4 n field
+    by-field l Fault.Nothing = by-room (l .size) (imageOf l (typeOf m) (fieldsOf m) plain) (ltb (length out) (l .size))
 
     by-type : (x : Shape) → IsKnown x → Leaves (writeShape x m plain out)
     unfolding writeShape
@@ -129,12 +129,12 @@ module _ (m : Message) (plain out : List ℕ) where
 
   -- ---- and whatever is answered, no byte beyond the count changes
   module _ (long : length plain ≡ plainRoom) where
-    untouched-fills : (n : ℕ) → Fills out (refuse n out)
-    untouched-fills n = record { long = refl; within = omega arith; beyond = refl }
+    untouched-fills : (n offset : ℕ) → Fills out (refuse n offset out)
+    untouched-fills n offset = record { long = refl; within = omega arith; beyond = refl }
 
-    laid-fills : (l : Layout) → shapeOf (typeOf m) ≡ Shape.Known l → (short : Bool) → ltb (length out) (l .size) ≡ short → Fills out (writeSized short l m plain out)
+    laid-fills : (l : Layout) → shapeOf (typeOf m) ≡ Shape.Known l → (short : Bool) → ltb (length out) (l .size) ≡ short → Fills out (writeSized short (l .size) (imageOf l (typeOf m) (fieldsOf m) plain) out)
     unfolding writeSized
-    laid-fills l known true e = untouched-fills 15
+    laid-fills l known true e = untouched-fills 15 0
     laid-fills l known false e =
         let there = ltb-false (length out) (l .size) e in
         let image = image-long l (layout-sane (typeOf m) l known) (typeOf m) (fieldsOf m) plain (drop (l .size) out) long in
@@ -146,12 +146,12 @@ module _ (m : Message) (plain out : List ℕ) where
 
     fault-fills : (l : Layout) → shapeOf (typeOf m) ≡ Shape.Known l → (x : Fault) → Fills out (writeBy x l m plain out)
     unfolding writeBy
-    fault-fills l known (Fault.At n) = untouched-fills 4
+    fault-fills l known (Fault.At n) = untouched-fills 4 n
     fault-fills l known Fault.Nothing = laid-fills l known (ltb (length out) (l .size)) refl
 
     shape-fills : (x : Shape) → shapeOf (typeOf m) ≡ x → Fills out (writeShape x m plain out)
     unfolding writeShape
-    shape-fills Shape.Unknown e = untouched-fills 3
+    shape-fills Shape.Unknown e = untouched-fills 3 0
     shape-fills (Shape.Known l) e = fault-fills l e (faultOf l (fieldsOf m))
 
     pub write-fills : Fills out (writeOf m plain out)

@@ -1,5 +1,5 @@
 -- Demand 2's round trips hold since the fields of a message fit the layout of its type, and the bytes of a layout are read where they are written.
-use mathlib.Core.Path.{_≡_, refl, sym, ap, _∙_, subst}
+use mathlib.Core.Path.{_≡_, refl, sym, ap, _∙_}
 use mathlib.Core.List.{List, _++_}
 use mathlib.Core.Bool.{Bool, true, false}
 use Prim.Native.Nat.{ℕ, _-_, _≤_}
@@ -10,7 +10,7 @@ use borrow.Author.Tests.{eqb-true}
 use lib.Seq.{slice}
 use Rattle.wire.specs.declared.table.Layout.{Layout}
 use Rattle.wire.specs.declared.table.Shape.{Shape}
-use Rattle.wire.specs.declared.fields.Fault.{Fault}
+use Rattle.wire.specs.declared.Fault.{Fault}
 use Rattle.wire.specs.declared.Message.{Message}
 use Rattle.wire.specs.Outcome.{Outcome, done, refused}
 use Rattle.wire.specs.Bytes.{paddedPlain, plainRoom}
@@ -21,20 +21,12 @@ use Rattle.wire.specs.Reading.{msgSize, msgType, reachOf, Read, readBy, 
 use Rattle.wire.specs.Writing.{imageOf, writeSized, writeBy, writeShape, writeOf}
 use Rattle.wire.specs.RoundTrip.{InRange, Bytes, arrayWidth, sameMessage, ReadsBack, ReservedZero, WritesBack}
 use Rattle.wire.proofs.Numbers.{value-empty}
-use Rattle.wire.proofs.Layouts.{AllRows, by-rows, layout-sane}
-use Rattle.wire.proofs.Cases.{done-is-not-refused, Reaches, reached, reach-size, read-reached, read-size, read-good, write-good}
+use Rattle.wire.proofs.Layouts.{AllRows, by-rows, at-row, layout-sane}
+use Rattle.wire.proofs.Cases.{done-is-not-refused, Reaches, reached, reach-size, read-reached, read-size, read-good, write-good, write-room}
 use Rattle.wire.proofs.Rows.{WithinWidths}
 use Rattle.wire.proofs.Images.{image-there, image-array, image-size, image-type, image-fields, image-of-read}
 
 -- ---- each message and its layout
-
--- the layout of a known shape
-abbrev layoutIn : Shape → Layout → Layout
-layoutIn Shape.Unknown d = d
-layoutIn (Shape.Known l) d = l
-
-at-row : (P : Layout → Type 0) (n : ℕ) (l : Layout) → shapeOf n ≡ Shape.Known l → P (layoutIn (shapeOf n) l) → P l
-at-row P n l e p = subst P (ap (λ (x : Shape). layoutIn x l) e) p
 
 -- its fields fit the layout of its type, and make the message again
 record Suits (m : Message) (l : Layout) : Type 0 where
@@ -72,7 +64,7 @@ keeps = by-rows Keeps kept-row
 
 module _ (m : Message) (plain out : List ℕ) (long : length plain ≡ plainRoom) (w : InRange (fieldsOf m)) where
   module _ (l : Layout) (known : shapeOf (typeOf m) ≡ Shape.Known l) (good : faultOf l (fieldsOf m) ≡ Fault.Nothing) where
-    read-image : (rest : List ℕ) → readOf (imageOf l (typeOf m) (fieldsOf m) plain ++ rest) ≡ record { outcome = done m; plain = paddedPlain (take (l .pad - l .plain) plain) }
+    read-image : (rest : List ℕ) → readOf (imageOf l (typeOf m) (fieldsOf m) plain ++ rest) ≡ record { outcome = done m; offset = 0; plain = paddedPlain (take (l .pad - l .plain) plain) }
     read-image rest =
         let f = fieldsOf m in
         let sane = layout-sane (typeOf m) l known in
@@ -85,15 +77,15 @@ module _ (m : Message) (plain out : List ℕ) (long : length plain ≡ plainRoom
         read-reached s (msgSize s) (reach-size s (omega arith) (omega arith) (omega arith))
         ∙ read-size s (msgSize s) l (ap shapeOf type ∙ known) size
         ∙ read-good s l (ap (faultOf l) fields ∙ good)
-        ∙ (λ i. record { outcome = done ((ap (messageOf (l .kind)) fields ∙ u .again) i); plain = paddedPlain (image-array l sane (typeOf m) f plain rest long i) })
+        ∙ (λ i. record { outcome = done ((ap (messageOf (l .kind)) fields ∙ u .again) i); offset = 0; plain = paddedPlain (image-array l sane (typeOf m) f plain rest long i) })
 
   -- by the cases of writing: only the last one is done
   by-room : (n : ℕ) (l : Layout) → shapeOf (typeOf m) ≡ Shape.Known l → faultOf l (fieldsOf m) ≡ Fault.Nothing → (b : Bool) →
-      writeSized b l m plain out .outcome ≡ done n → readOf (writeSized b l m plain out .out) ≡ sameMessage m plain
+      writeSized b (l .size) (imageOf l (typeOf m) (fieldsOf m) plain) out .outcome ≡ done n → readOf (writeSized b (l .size) (imageOf l (typeOf m) (fieldsOf m) plain) out .out) ≡ sameMessage m plain
   unfolding writeSized
   by-room n l known good true e = absurd (done-is-not-refused e)
   by-room n l known good false e =
-      read-image l known good (drop (l .size) out) ∙ ap (λ (x : Shape). record { outcome = done m; plain = paddedPlain (take (arrayWidth x) plain) }) (sym known)
+      read-image l known good (drop (l .size) out) ∙ ap (λ (x : Shape). record { outcome = done m; offset = 0; plain = paddedPlain (take (arrayWidth x) plain) }) (sym known)
 
   by-fault : (n : ℕ) (l : Layout) → shapeOf (typeOf m) ≡ Shape.Known l → (x : Fault) → faultOf l (fieldsOf m) ≡ x →
       writeBy x l m plain out .outcome ≡ done n → readOf (writeBy x l m plain out .out) ≡ sameMessage m plain
@@ -114,7 +106,7 @@ module _ (m : Message) (plain out : List ℕ) (long : length plain ≡ plainRoom
 
 module _ (s : List ℕ) (bytes : Bytes s) (m : Message) (out : List ℕ) where
   abbrev WroteAll : Read → Type 0
-  WroteAll r = writeOf m (r .plain) out ≡ record { outcome = done (msgSize s); out = take (msgSize s) s ++ drop (msgSize s) out }
+  WroteAll r = writeOf m (r .plain) out ≡ record { outcome = done (msgSize s); offset = 0; out = take (msgSize s) s ++ drop (msgSize s) out }
 
   module _ (l : Layout) (known : shapeOf (msgType s) ≡ Shape.Known l) (size : msgSize s ≡ l .size) (there : msgSize s ≤ length s) (room : msgSize s ≤ length out) where
     back-fields : (x : Fault) → faultOf l (fieldsAt s l) ≡ x → readBy x s l .outcome ≡ done m → ReservedZero (Shape.Known l) s → WroteAll (readBy x s l)
@@ -127,9 +119,10 @@ module _ (s : List ℕ) (bytes : Bytes s) (m : Message) (out : List ℕ) where
         let fields : fieldsOf m ≡ fieldsAt s l = ap fieldsOf (sym is) ∙ kept .fields s in
         let plain = paddedPlain (slice (l .plain) (l .pad) s) in
         let image = image-of-read s l bytes (layout-sane (msgType s) l known) size (omega arith) (zero .0) (zero .1) in
-        write-good m plain out l (ap shapeOf type ∙ known) (ap (faultOf l) fields ∙ q) (omega arith)
-        ∙ (λ i. record { outcome = done (sym size i); out = ((λ j. imageOf l (type j) (fields j) plain) ∙ image) i ++ drop (l .size) out })
-        ∙ (λ i. record { outcome = done (msgSize s); out = take (sym size i) s ++ drop (sym size i) out })
+        write-good m plain out l (ap shapeOf type ∙ known) (ap (faultOf l) fields ∙ q)
+        ∙ write-room (l .size) (imageOf l (typeOf m) (fieldsOf m) plain) out (omega arith)
+        ∙ (λ i. record { outcome = done (sym size i); offset = 0; out = ((λ j. imageOf l (type j) (fields j) plain) ∙ image) i ++ drop (l .size) out })
+        ∙ (λ i. record { outcome = done (msgSize s); offset = 0; out = take (sym size i) s ++ drop (sym size i) out })
 
     back-size : (b : Bool) → readSized b s l .outcome ≡ done m → ReservedZero (Shape.Known l) s → WroteAll (readSized b s l)
     unfolding readSized readBody

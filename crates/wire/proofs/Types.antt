@@ -8,13 +8,13 @@ use lib.ListN.{length}
 use lib.Dec.{ltb}
 use Rattle.wire.specs.declared.table.Layout.{Layout}
 use Rattle.wire.specs.declared.table.Shape.{Shape}
-use Rattle.wire.specs.declared.fields.Fault.{Fault}
+use Rattle.wire.specs.declared.Fault.{Fault}
 use Rattle.wire.specs.declared.Message.{Message}
 use Rattle.wire.specs.Outcome.{refused}
 use Rattle.wire.specs.Table.{shapeOf}
 use Rattle.wire.specs.Fields.{faultOf}
 use Rattle.wire.specs.Message.{fieldsOf, typeOf}
-use Rattle.wire.specs.Writing.{writeSized, writeBy, writeShape, writeOf}
+use Rattle.wire.specs.Writing.{imageOf, writeSized, writeBy, writeShape, writeOf}
 use Rattle.wire.proofs.Cases.{done-is-not-refused}
 
 abbrev pub IsKnown : Shape → Type 0
@@ -38,15 +38,15 @@ type-known (Message.Clear h s) = tt
 type-known (Message.Status h s) = tt
 
 module _ (m : Message) (plain out : List ℕ) where
-  by-room : (l : Layout) (b : Bool) → writeSized b l m plain out .outcome ≡ refused 3 → ⊥
+  by-room : (size : ℕ) (image : List ℕ) (b : Bool) → writeSized b size image out .outcome ≡ refused 3 → ⊥
   unfolding writeSized
-  by-room l true e = let z : _≡_ {A = ℕ} 15 3 = cc in omega arith
-  by-room l false e = done-is-not-refused (sym e)
+  by-room size image true e = let z : _≡_ {A = ℕ} 15 3 = cc in omega arith
+  by-room size image false e = done-is-not-refused (sym e)
 
   by-fault : (l : Layout) (x : Fault) → writeBy x l m plain out .outcome ≡ refused 3 → ⊥
   unfolding writeBy
   by-fault l (Fault.At n) e = let z : _≡_ {A = ℕ} 4 3 = cc in omega arith
-  by-fault l Fault.Nothing e = by-room l (ltb (length out) (l .size)) e
+  by-fault l Fault.Nothing e = by-room (l .size) (imageOf l (typeOf m) (fieldsOf m) plain) (ltb (length out) (l .size)) e
 
   by-shape : (x : Shape) → IsKnown x → writeShape x m plain out .outcome ≡ refused 3 → ⊥
   unfolding writeShape

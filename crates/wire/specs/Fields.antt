@@ -4,11 +4,11 @@ use mathlib.Core.Path.{_≡_}
 use mathlib.Core.List.{List, [], _∷_}
 use mathlib.Core.Bool.{Bool, true, false, cond, not}
 use lib.Dec.{eqb, ltb, leb}
+use Rattle.wire.specs.Outcome.{Answered, done, only, badAt}
 use Rattle.wire.specs.Bytes.{valueAt, plainRoom}
 use Rattle.wire.specs.declared.table.Layout.{Layout}
 use Rattle.wire.specs.declared.fields.Fields.{Fields}
-use Rattle.wire.specs.declared.fields.Fault.{Fault}
-use Rattle.wire.specs.declared.fields.Fault.the-variants.{Nothing, At}
+use Rattle.wire.specs.declared.Fault.{Fault}
 
 -- The fields follow one another, and none is wider than its type.
 pub record Sane (l : Layout) : Type 0 where
@@ -85,16 +85,32 @@ abbrev pub sideBad : Bool → ℕ → Bool
 sideBad false x = false
 sideBad true x = cond (eqb x buyLetter) false (not (eqb x sellLetter))
 
--- the first bad one of nanoseconds, volume, flag and side, which is the order of their offsets
-unfoldable pub faultBy : Bool → Bool → Bool → Bool → Layout → Fault
-faultBy true volume flag side l = At (l .form)
-faultBy false true flag side l = At (l .volume)
-faultBy false false true side l = At (l .flag)
-faultBy false false false true l = At (l .side)
-faultBy false false false false l = Nothing
+-- a field that may be bad: where it starts in its message, and whether it is
+pub record Check : Type 0 where
+  pub at : ℕ
+  pub bad : Bool
+
+-- nanoseconds, volume, flag and side, in the order of their offsets
+abbrev pub checksOf : Layout → Fields → List Check
+checksOf l f =
+    record { at = l .form; bad = nanosBad (f .nanos) }
+    ∷ record { at = l .volume; bad = volumeBad (l .positive) (f .volume) }
+    ∷ record { at = l .flag; bad = flagBad (f .flag) }
+    ∷ record { at = l .side; bad = sideBad (ltb (l .side) (l .letter)) (f .side) }
+    ∷ []
+
+-- the first bad one
+unfoldable pub firstBad : List Check → Fault
+firstBad [] = Fault.Nothing
+firstBad (c ∷ cs) = cond (c .bad) (Fault.At (c .at)) (firstBad cs)
 
 unfoldable pub faultOf : Layout → Fields → Fault
-faultOf l f = faultBy (nanosBad (f .nanos)) (volumeBad (l .positive) (f .volume)) (flagBad (f .flag)) (sideBad (ltb (l .side) (l .letter)) (f .side)) l
+faultOf l f = firstBad (checksOf l f)
+
+-- document 01's number of each case, with the offset
+abbrev pub faultAs : Fault → Answered (Unit {0})
+faultAs Fault.Nothing = only (done tt)
+faultAs (Fault.At n) = badAt n
 
 -- ---- the numbers of a message as the writer lays them out
 

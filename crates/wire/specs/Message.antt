@@ -1,12 +1,12 @@
 -- Typed messages: which fields each type has, and its number.
 use Prim.Native.Nat.{ℕ}
-use mathlib.Core.Bool.{Bool, true, false}
+use Rattle.wire.specs.Outcome.{Answered}
 use Rattle.wire.specs.Table.{shapeOf}
-use Rattle.wire.specs.Fields.{faultOf}
+use Rattle.wire.specs.Fields.{faultOf, faultAs}
 use Rattle.wire.specs.declared.table.Shape.{Shape}
-use Rattle.wire.specs.declared.fields.Fault.{Fault}
 use Rattle.wire.specs.declared.table.Kind.{Kind}
 use Rattle.wire.specs.declared.fields.Fields.{Fields}
+use Rattle.wire.specs.declared.Fault.{Fault}
 use Rattle.wire.specs.declared.Head.{Head}
 use Rattle.wire.specs.declared.Message.{Message}
 use Rattle.wire.specs.declared.Message.the-variants.{Add, Modify, Delete, Execute, Replace, Imbalance, NonDisplayed, Cross, TradeCancel, CrossCorrection, Retail, Clear, Status}
@@ -82,14 +82,14 @@ typeOf (Status h seconds) = 34
 abbrev pub indexIn : Message → ℕ
 indexIn m = fieldsOf m .index
 
--- has it a field that document 01 calls bad?
-abbrev pub isFault : Fault → Bool
-isFault Fault.Nothing = false
-isFault (Fault.At n) = true
+-- its first bad field
+abbrev pub faultUnder : Shape → Message → Fault
+faultUnder Shape.Unknown m = Fault.Nothing
+faultUnder (Shape.Known l) m = faultOf l (fieldsOf m)
 
-abbrev pub badUnder : Shape → Message → Bool
-badUnder Shape.Unknown m = false
-badUnder (Shape.Known l) m = isFault (faultOf l (fieldsOf m))
+unfoldable pub faultIn : Message → Fault
+faultIn m = faultUnder (shapeOf (typeOf m)) m
 
-unfoldable pub hasBadField : Message → Bool
-hasBadField m = badUnder (shapeOf (typeOf m)) m
+-- 0, or 4 with the offset of that field
+abbrev pub badFieldOf : Message → Answered (Unit {0})
+badFieldOf m = faultAs (faultIn m)

@@ -5,14 +5,15 @@ use mathlib.Core.Bool.{Bool, true, false}
 use lib.ListN.{length, replicate}
 use lib.Dec.{eqb, ltb}
 use lib.Seq.{slice}
-use Rattle.wire.specs.Outcome.{Outcome, done, refused}
+use Rattle.wire.specs.Outcome.{Outcome, done, refused, Answered, only, badAt}
 use Rattle.wire.specs.Bytes.{valueAt, paddedPlain, plainRoom}
 use Rattle.wire.specs.Table.{shapeOf}
 use Rattle.wire.specs.Fields.{fieldsAt, faultOf}
 use Rattle.wire.specs.Message.{messageOf}
 use Rattle.wire.specs.declared.table.Layout.{Layout}
 use Rattle.wire.specs.declared.table.Shape.{Shape}
-use Rattle.wire.specs.declared.fields.Fault.{Fault}
+use Rattle.wire.specs.declared.fields.Fields.{Fields}
+use Rattle.wire.specs.declared.Fault.{Fault}
 use Rattle.wire.specs.declared.Message.{Message}
 use Rattle.wire.specs.declared.Reach.{Reach}
 use Rattle.wire.specs.declared.Answer.{Answer}
@@ -49,51 +50,56 @@ reachOf s = reachBy (ltb (length s) leastSize) (ltb (msgSize s) leastSize) (ltb 
 
 -- ---- the message
 
--- document 01's number and value of each case
-abbrev pub answeredAs : Answer → Outcome Message
-answeredAs (Answer.Message m) = done m
-answeredAs Answer.Short = refused 1
-answeredAs Answer.BadSize = refused 2
-answeredAs Answer.BadType = refused 3
-answeredAs Answer.BadField = refused 4
+-- document 01's number and value of each case, and the offset
+abbrev pub answeredAs : Answer → Answered Message
+answeredAs (Answer.Message m) = only (done m)
+answeredAs Answer.Short = only (refused 1)
+answeredAs Answer.BadSize = only (refused 2)
+answeredAs Answer.BadType = only (refused 3)
+answeredAs (Answer.BadField n) = badAt n
 
--- what a read hands back: the outcome, and the byte array beside it
+-- what a read hands back: the outcome and the offset, and the byte array beside them
 pub record Read : Type 0 where
   pub outcome : Outcome Message
+  pub offset : ℕ
   pub plain : List ℕ
 
 abbrev pub decodedAs : Decoded → Read
-decodedAs d = record { outcome = answeredAs (d .answer); plain = d .plain }
+decodedAs d = record { outcome = answeredAs (d .answer) .outcome; offset = answeredAs (d .answer) .offset; plain = d .plain }
 
--- a refused read hands back no message, and zeros
-abbrev pub noMessage : ℕ → Read
-noMessage n = record { outcome = refused n; plain = replicate plainRoom 0 }
+-- a refused read, by its number and offset, hands back no message, and zeros
+abbrev pub noMessage : ℕ → ℕ → Read
+noMessage n offset = record { outcome = refused n; offset = offset; plain = replicate plainRoom 0 }
 
 abbrev pub refusedRead : Answer → Decoded
 refusedRead a = record { answer = a; plain = replicate plainRoom 0 }
 
+-- the message of these fields, with its byte array
+abbrev pub goodRead : List ℕ → Layout → Fields → Read
+goodRead s l f = record { outcome = done (messageOf (l .kind) f); offset = 0; plain = paddedPlain (slice (l .plain) (l .pad) s) }
+
 -- the fields
 unfoldable pub readBy : Fault → List ℕ → Layout → Read
-readBy (Fault.At n) s l = noMessage 4
-readBy Fault.Nothing s l = record { outcome = done (messageOf (l .kind) (fieldsAt s l)); plain = paddedPlain (slice (l .plain) (l .pad) s) }
+readBy (Fault.At n) s l = noMessage 4 n
+readBy Fault.Nothing s l = goodRead s l (fieldsAt s l)
 
 unfoldable pub readBody : List ℕ → Layout → Read
 readBody s l = readBy (faultOf l (fieldsAt s l)) s l
 
 -- the type, then the size: is Msg Size the size of the type?
 unfoldable pub readSized : Bool → List ℕ → Layout → Read
-readSized false s l = noMessage 2
+readSized false s l = noMessage 2 0
 readSized true s l = readBody s l
 
 unfoldable pub readShape : Shape → List ℕ → ℕ → Read
-readShape Shape.Unknown s size = noMessage 3
+readShape Shape.Unknown s size = noMessage 3 0
 readShape (Shape.Known l) s size = readSized (eqb size (l .size)) s l
 
 unfoldable pub readTyped : List ℕ → ℕ → Read
 readTyped s size = readShape (shapeOf (msgType s)) s size
 
 unfoldable pub readReached : Outcome ℕ → List ℕ → Read
-readReached (refused n) s = noMessage n
+readReached (refused n) s = noMessage n 0
 readReached (done size) s = readTyped s size
 
 -- the message at the start of s

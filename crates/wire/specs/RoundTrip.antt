@@ -38,7 +38,7 @@ arrayWidth (Shape.Known l) = l .pad - l .plain
 
 -- the same message: the bytes of its array beyond its type's width are no part of it
 abbrev pub sameMessage : Message → List ℕ → Read
-sameMessage m plain = record { outcome = done m; plain = paddedPlain (take (arrayWidth (shapeOf (typeOf m))) plain) }
+sameMessage m plain = record { outcome = done m; offset = 0; plain = paddedPlain (take (arrayWidth (shapeOf (typeOf m))) plain) }
 
 -- Reading what was written gives the same message.
 unfoldable pub ReadsBack : Message → List ℕ → Write → Type 0
@@ -52,4 +52,4 @@ ReservedZero (Shape.Known l) s = (valueAt s (l .gap) (l .plain) ≡ 0) × (value
 -- Writing what was read gives the same bytes, where the reserved bytes are zero.
 unfoldable pub WritesBack : List ℕ → Read → Type 0
 WritesBack s r = (m : Message) → r .outcome ≡ done m → ReservedZero (shapeOf (msgType s)) s → (out : List ℕ) → msgSize s ≤ length out →
-    writeOf m (r .plain) out ≡ record { outcome = done (msgSize s); out = take (msgSize s) s ++ drop (msgSize s) out }
+    writeOf m (r .plain) out ≡ record { outcome = done (msgSize s); offset = 0; out = take (msgSize s) s ++ drop (msgSize s) out }

@@ -5,7 +5,7 @@ use mathlib.Core.Bool.{Bool, true, false}
 use mathlib.Core.Path.{_≡_}
 use lib.ListN.{length, take, drop}
 use lib.Dec.{ltb}
-use Rattle.wire.specs.Outcome.{Outcome, done, refused}
+use Rattle.wire.specs.Outcome.{Outcome, done, refused, Answered, only, badAt}
 use Rattle.wire.specs.Bytes.{littleEndian, bytesOf}
 use Rattle.wire.specs.Table.{shapeOf}
 use Rattle.wire.specs.Fields.{faultOf, endsOf, valuesOf}
@@ -13,16 +13,16 @@ use Rattle.wire.specs.Message.{fieldsOf, typeOf}
 use Rattle.wire.specs.declared.table.Layout.{Layout}
 use Rattle.wire.specs.declared.table.Shape.{Shape}
 use Rattle.wire.specs.declared.fields.Fields.{Fields}
-use Rattle.wire.specs.declared.fields.Fault.{Fault}
+use Rattle.wire.specs.declared.Fault.{Fault}
 use Rattle.wire.specs.declared.Message.{Message}
 use Rattle.wire.specs.declared.Written.{Written}
 
--- document 01's number and value of each case
-abbrev pub wroteAs : Written → Outcome ℕ
-wroteAs (Written.Bytes n) = done n
-wroteAs Written.BadType = refused 3
-wroteAs Written.BadField = refused 4
-wroteAs Written.NoRoom = refused 15
+-- document 01's number and value of each case, and the offset
+abbrev pub wroteAs : Written → Answered ℕ
+wroteAs (Written.Bytes n) = only (done n)
+wroteAs Written.BadType = only (refused 3)
+wroteAs (Written.BadField n) = badAt n
+wroteAs Written.NoRoom = only (refused 15)
 
 -- how many bytes were written
 abbrev pub countOf : Outcome ℕ → ℕ
@@ -32,13 +32,18 @@ countOf (refused k) = 0
 -- what a write answers, and what it leaves in the buffer
 pub record Write : Type 0 where
   pub outcome : Outcome ℕ
+  pub offset : ℕ
   pub out : List ℕ
 
-abbrev pub wrote : Written → List ℕ → Write
-wrote w out = record { outcome = wroteAs w; out = out }
+abbrev pub leaving : Answered ℕ → List ℕ → Write
+leaving a out = record { outcome = a .outcome; offset = a .offset; out = out }
 
-abbrev pub refuse : ℕ → List ℕ → Write
-refuse n out = record { outcome = refused n; out = out }
+abbrev pub wrote : Written → List ℕ → Write
+wrote w out = leaving (wroteAs w) out
+
+-- a refused write, by its number and offset, leaves the buffer as it was
+abbrev pub refuse : ℕ → ℕ → List ℕ → Write
+refuse n offset out = record { outcome = refused n; offset = offset; out = out }
 
 -- a write that leaves the buffer as long as it was, counts no more bytes than that, and changes none beyond the count
 pub record Fills (out : List ℕ) (w : Write) : Type 0 where
@@ -50,17 +55,17 @@ pub record Fills (out : List ℕ) (w : Write) : Type 0 where
 unfoldable pub imageOf : Layout → ℕ → Fields → List ℕ → List ℕ
 imageOf l type f plain = bytesOf 0 (endsOf l) (valuesOf (l .size) type f) ++ take (l .pad - l .plain) plain ++ littleEndian (l .size - l .pad) 0
 
--- is the buffer too short?
-unfoldable pub writeSized : Bool → Layout → Message → List ℕ → List ℕ → Write
-writeSized true l m plain out = refuse 15 out
-writeSized false l m plain out = record { outcome = done (l .size); out = imageOf l (typeOf m) (fieldsOf m) plain ++ drop (l .size) out }
+-- is the buffer shorter than the message?
+unfoldable pub writeSized : Bool → ℕ → List ℕ → List ℕ → Write
+writeSized true size image out = refuse 15 0 out
+writeSized false size image out = record { outcome = done size; offset = 0; out = image ++ drop size out }
 
 unfoldable pub writeBy : Fault → Layout → Message → List ℕ → List ℕ → Write
-writeBy (Fault.At n) l m plain out = refuse 4 out
-writeBy Fault.Nothing l m plain out = writeSized (ltb (length out) (l .size)) l m plain out
+writeBy (Fault.At n) l m plain out = refuse 4 n out
+writeBy Fault.Nothing l m plain out = writeSized (ltb (length out) (l .size)) (l .size) (imageOf l (typeOf m) (fieldsOf m) plain) out
 
 unfoldable pub writeShape : Shape → Message → List ℕ → List ℕ → Write
-writeShape Shape.Unknown m plain out = refuse 3 out
+writeShape Shape.Unknown m plain out = refuse 3 0 out
 writeShape (Shape.Known l) m plain out = writeBy (faultOf l (fieldsOf m)) l m plain out
 
 -- the message at the start of out

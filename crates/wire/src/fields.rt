@@ -1,5 +1,6 @@
 // The fields of a message of any type, and the rules that they keep.
 use crate::BUY;
+use crate::Fault;
 use crate::SELL;
 use crate::bytes::get;
 use crate::bytes::get8;
@@ -30,12 +31,6 @@ pub(crate) struct Fields {
     pub(crate) flag: u8,
     pub(crate) side: u8,
     pub(crate) letter: u8,
-}
-
-// The offset of the first bad field.
-pub(crate) enum Fault {
-    Nothing,
-    At(usize),
 }
 
 pub(crate) fn fields_at(s: &[u8], l: Layout) -> Fields

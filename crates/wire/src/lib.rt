@@ -11,7 +11,7 @@ mod writing;
 
 pub use extent::reach_at;
 pub use reading::decode;
-pub use typed::has_bad_field;
+pub use typed::bad_field;
 pub use typed::index_of;
 pub use typed::type_of;
 pub use writing::encode;
@@ -120,13 +120,19 @@ pub enum Reach {
     Small,
 }
 
-// What reading answers.
+// The first bad field of a message: none, or the one that starts at this offset in the message, where Msg Size stands at 0.
+pub enum Fault {
+    Nothing,
+    At(usize),
+}
+
+// What reading answers. A bad field comes with the offset of the first one.
 pub enum Answer {
     Message(Message),
     Short,
     BadSize,
     BadType,
-    BadField,
+    BadField(usize),
 }
 
 // The answer with the message's byte array beside it, zeros after its end. A refused read has zeros alone.
@@ -135,47 +141,72 @@ pub struct Decoded {
     pub plain: [u8; PLAIN],
 }
 
-// What writing answers: how many bytes, or why none.
+// What writing answers: how many bytes, or why none. A bad field comes with the offset of the first one.
 pub enum Written {
     Bytes(usize),
     BadType,
-    BadField,
+    BadField(usize),
     NoRoom,
 }
 
 // Document 01's number of what reading answered.
 pub fn number_of_answer(a: Answer) -> u8
-    ensures { λ r. ⌜ r ≡ numberOf (answeredAs a) ⌝ }
+    ensures { λ r. ⌜ r ≡ numberOf (answeredAs a .outcome) ⌝ }
 {
     match a {
         Answer::Message(_) => 0,
         Answer::Short => 1,
         Answer::BadSize => 2,
         Answer::BadType => 3,
-        Answer::BadField => 4,
+        Answer::BadField(_) => 4,
+    }
+}
+
+// The offset of the first bad field, with a 4; with every other number 0.
+pub fn offset_of_answer(a: Answer) -> usize
+    ensures { λ r. ⌜ r ≡ answeredAs a .offset ⌝ }
+{
+    match a {
+        Answer::Message(_) => 0,
+        Answer::Short => 0,
+        Answer::BadSize => 0,
+        Answer::BadType => 0,
+        Answer::BadField(n) => n,
     }
 }
 
 // Document 01's number of what writing answered.
 pub fn number_of_written(w: Written) -> u8
-    ensures { λ r. ⌜ r ≡ numberOf (wroteAs w) ⌝ }
+    ensures { λ r. ⌜ r ≡ numberOf (wroteAs w .outcome) ⌝ }
 {
     match w {
         Written::Bytes(_) => 0,
         Written::BadType => 3,
-        Written::BadField => 4,
+        Written::BadField(_) => 4,
         Written::NoRoom => 15,
     }
 }
 
 // How many bytes were written: none when refused.
 pub fn count_of_written(w: Written) -> usize
-    ensures { λ r. ⌜ r ≡ countOf (wroteAs w) ⌝ }
+    ensures { λ r. ⌜ r ≡ countOf (wroteAs w .outcome) ⌝ }
 {
     match w {
         Written::Bytes(n) => n,
         Written::BadType => 0,
-        Written::BadField => 0,
+        Written::BadField(_) => 0,
+        Written::NoRoom => 0,
+    }
+}
+
+// The offset of the first bad field, with a 4; with every other number 0.
+pub fn offset_of_written(w: Written) -> usize
+    ensures { λ r. ⌜ r ≡ wroteAs w .offset ⌝ }
+{
+    match w {
+        Written::Bytes(_) => 0,
+        Written::BadType => 0,
+        Written::BadField(n) => n,
         Written::NoRoom => 0,
     }
 }

@@ -1,12 +1,13 @@
 // Reading a message from a slice.
 use crate::Answer;
 use crate::Decoded;
+use crate::Fault;
 use crate::PLAIN;
 use crate::Reach;
 use crate::bytes::get16;
 use crate::bytes::plain_at;
 use crate::extent::first_reach;
-use crate::fields::Fault;
+use crate::fields::Fields;
 use crate::fields::fault_of;
 use crate::fields::fields_at;
 use crate::table::Layout;
@@ -17,7 +18,7 @@ ghost use mathlib.Core.Path.{_≡_};
 ghost use Prim.Native.Nat.{_≤_};
 ghost use lib.ListN.{length};
 ghost use Rattle.wire.specs.Fields.{Sane};
-ghost use Rattle.wire.specs.Reading.{decodedAs, readOf, readTyped, readBody, refusedRead};
+ghost use Rattle.wire.specs.Reading.{decodedAs, readOf, readTyped, readBody, refusedRead, goodRead};
 ghost use Rattle.wire.specs.RoundTrip.{WritesBack};
 
 // Reads the message at the start of s.
@@ -63,14 +64,22 @@ fn decode_body(s: &[u8], l: Layout) -> Decoded
     requires { ⌜ Sane l × (l .size ≤ length (now s)) ⌝ }
     ensures { λ r. ⌜ decodedAs r ≡ readBody (now (s .entry)) l ⌝ }
 {
+    let f = fields_at(s, l);
+    let fault = fault_of(l, f);
+    match fault {
+        Fault::At(n) => refused(Answer::BadField(n)),
+        Fault::Nothing => decode_good(s, l, f),
+    }
+}
+
+// The message of these fields, with its byte array.
+fn decode_good(s: &[u8], l: Layout, f: Fields) -> Decoded
+    requires { ⌜ Sane l × (l .size ≤ length (now s)) ⌝ }
+    ensures { λ r. ⌜ decodedAs r ≡ goodRead (now (s .entry)) l f ⌝ }
+{
     let k = l.kind;
     let a = l.plain;
     let e = l.pad;
-    let f = fields_at(s, l);
-    let fault = fault_of(l, f);
-    let Fault::Nothing = fault else {
-        return refused(Answer::BadField);
-    };
     let plain = plain_at(s, a, e);
     let m = message_of(k, f);
     Decoded {

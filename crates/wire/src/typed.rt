@@ -1,7 +1,7 @@
 // Typed messages and their fields: each type has its own.
+use crate::Fault;
 use crate::Head;
 use crate::Message;
-use crate::fields::Fault;
 use crate::fields::Fields;
 use crate::fields::fault_of;
 use crate::table::Kind;
@@ -9,7 +9,8 @@ use crate::table::Shape;
 use crate::table::shape_of;
 ghost use mathlib.Core.Path.{_≡_};
 ghost use Rattle.wire.specs.RoundTrip.{InRange};
-ghost use Rattle.wire.specs.Message.{messageOf, fieldsWith, fieldsOf, typeOf, indexIn, hasBadField};
+ghost use Rattle.wire.specs.Fields.{faultAs};
+ghost use Rattle.wire.specs.Message.{messageOf, fieldsWith, fieldsOf, typeOf, indexIn, badFieldOf};
 
 // The message of a type with these fields.
 pub(crate) fn message_of(k: Kind, f: Fields) -> Message
@@ -218,19 +219,15 @@ pub fn index_of(m: Message) -> u32
     f.index
 }
 
-// Whether a message has a bad field. One that was read has none; one that was made by hand may.
-pub fn has_bad_field(m: Message) -> bool
-    ensures { λ r. ⌜ r ≡ hasBadField m ⌝ }
+// The first bad field of a message. One that was read has none; one that was made by hand may.
+pub fn bad_field(m: Message) -> Fault
+    ensures { λ r. ⌜ faultAs r ≡ badFieldOf m ⌝ }
 {
     let number = type_of(m);
     let f = fields_of(m);
     let shape = shape_of(number);
     let Shape::Known(l) = shape else {
-        return false;
+        return Fault::Nothing;
     };
-    let fault = fault_of(l, f);
-    let Fault::Nothing = fault else {
-        return true;
-    };
-    false
+    fault_of(l, f)
 }

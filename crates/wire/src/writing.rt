@@ -1,11 +1,11 @@
 // Writing a message into a lent buffer.
+use crate::Fault;
 use crate::Message;
 use crate::PLAIN;
 use crate::Written;
 use crate::bytes::put_plain;
 use crate::bytes::put_value;
 use crate::bytes::put_values;
-use crate::fields::Fault;
 use crate::fields::Fields;
 use crate::fields::ends_of;
 use crate::fields::fault_of;
@@ -18,9 +18,10 @@ use crate::typed::type_of;
 ghost use mathlib.Core.Path.{_≡_};
 ghost use mathlib.Core.List.{_++_};
 ghost use Prim.Native.Nat.{_≤_};
+ghost use lib.Dec.{ltb};
 ghost use lib.ListN.{length, drop};
 ghost use Rattle.wire.specs.Fields.{Sane};
-ghost use Rattle.wire.specs.Writing.{imageOf, wrote, writeOf};
+ghost use Rattle.wire.specs.Writing.{imageOf, wrote, writeSized, writeOf};
 ghost use Rattle.wire.specs.RoundTrip.{ReadsBack};
 
 // Writes a message with its byte array to the start of out. Refused, it leaves every byte of out.
@@ -34,11 +35,19 @@ pub fn encode(m: Message, plain: [u8; PLAIN], out: &mut [u8]) -> Written
     let Shape::Known(l) = shape else {
         return Written::BadType;
     };
-    let size = l.size;
     let fault = fault_of(l, f);
-    let Fault::Nothing = fault else {
-        return Written::BadField;
-    };
+    match fault {
+        Fault::At(n) => Written::BadField(n),
+        Fault::Nothing => encode_good(out, l, number, f, plain),
+    }
+}
+
+// The message of these fields, where there is room for it.
+fn encode_good(out: &mut [u8], l: Layout, number: u16, f: Fields, plain: [u8; PLAIN]) -> Written
+    requires { ⌜ Sane l ⌝ }
+    ensures { λ r. ⌜ wrote r (now (out .exit)) ≡ writeSized (ltb (length (now (out .entry))) (l .size)) (l .size) (imageOf l number f plain) (now (out .entry)) ⌝ }
+{
+    let size = l.size;
     if out.len() < size {
         return Written::NoRoom;
     }

@@ -1,8 +1,7 @@
 //! A list of calls in the making, with what the probe holds after it.
 
 use super::call_list::CallList;
-use super::damage::{bad_nanoseconds, damaged, derailed, noise, sent};
-use super::messages::at;
+use super::damage::{damaged, derailed, noise, sent, with_bad_fields};
 use super::random::Random;
 use super::registers;
 use super::source::Source;
@@ -81,10 +80,7 @@ impl Maker {
             0 | 1 => damaged(&message, random),
             2 => derailed(&message, random),
             3 => noise(random),
-            4 => {
-                let nanoseconds = bad_nanoseconds(random);
-                to_bytes(&at(nanoseconds, message))
-            }
+            4 => to_bytes(&with_bad_fields(message, random)),
             _ => to_bytes(&message),
         }
     }

@@ -1,11 +1,12 @@
 //! Damage to one message: bits, sizes, types and fields.
 
+use super::bad_fields::{spoiled, Bad};
 use super::random::Random;
 use crate::wire::message::{
     size_of_type, ADD, DELETE, EXECUTE, MODIFY, NANOSECONDS_PER_SECOND, REPLACE, TYPES,
 };
 use crate::wire::write::to_bytes;
-use crate::wire::{Body, Message};
+use crate::wire::Message;
 
 /// Types outside the table, some of them near one inside.
 const UNKNOWN: [u16; 14] = [
@@ -31,9 +32,9 @@ pub fn sent(message: &Message, random: &mut Random) -> Vec<u8> {
 
 /// The message with a fault that leaves the next one where a reader looks for it.
 pub fn damaged(message: &Message, random: &mut Random) -> Vec<u8> {
-    let bad_field = random.one_in(3);
+    let bad_field = random.one_in(2);
     let mut bytes = if bad_field {
-        to_bytes(&with_bad_field(*message, random))
+        to_bytes(&with_bad_fields(*message, random))
     } else {
         to_bytes(message)
     };
@@ -96,47 +97,21 @@ fn set_type(bytes: &mut [u8], random: &mut Random) {
     bytes[2..4].copy_from_slice(&kind.to_le_bytes());
 }
 
-/// A field that the type's rules forbid; nanoseconds where it has no other.
-fn with_bad_field(mut message: Message, random: &mut Random) -> Message {
-    let bad_side = random.pick(&[0, b'A', b'b', b's', b' ', 0xFF]);
-    let bad_flag = random.pick(&[2, 3, 0x30, 0x31, 0x80, 0xFF]);
-    let first = random.one_in(2);
-    match &mut message.body {
-        Body::Add { side, volume, .. } | Body::Replace { side, volume, .. } => {
-            if first {
-                *side = bad_side;
-            } else {
-                *volume = 0;
-            }
-        }
-        Body::Modify {
-            side,
-            position,
-            volume,
-            ..
-        } => match random.below(3) {
-            0 => *side = bad_side,
-            1 => *position = bad_flag,
-            _ => *volume = 0,
-        },
-        Body::Execute {
-            printable, volume, ..
-        }
-        | Body::Trade {
-            printable, volume, ..
-        } => {
-            if first {
-                *printable = bad_flag;
-            } else {
-                *volume = 0;
-            }
-        }
-        _ => message.nanoseconds = bad_nanoseconds(random),
+/// Bad values in any of the fields that the type has rules for, so in several of them too;
+/// in the nanoseconds at times, and where no other was drawn.
+pub fn with_bad_fields(message: Message, random: &mut Random) -> Message {
+    let own = [
+        Bad::Volume,
+        Bad::Flag(random.pick(&[2, 3, 0x30, 0x31, 0x80, 0xFF])),
+        Bad::Side(random.pick(&[0, b'A', b'b', b's', b' ', 0xFF])),
+    ];
+    let drawn: Vec<Bad> = own.into_iter().filter(|_| random.one_in(2)).collect();
+    let bad = spoiled(message, &drawn);
+    if bad == message || random.one_in(5) {
+        spoiled(bad, &[Bad::Nanoseconds(bad_nanoseconds(random))])
+    } else {
+        bad
     }
-    if random.one_in(4) {
-        message.nanoseconds = bad_nanoseconds(random);
-    }
-    message
 }
 
 pub fn bad_nanoseconds(random: &mut Random) -> u32 {
@@ -167,7 +142,8 @@ pub fn noise(random: &mut Random) -> Vec<u8> {
     bytes
 }
 
-/// Makes some of the noise get past the first checks: time, symbol, number, side and flag.
+/// Makes some of the noise get past the first checks: time, symbol, number, side and flag. At times
+/// there are zeros where some types have their volume, which noise alone hardly gives.
 fn steady(bytes: &mut [u8], random: &mut Random) {
     let shift = if random.one_in(4) { 4 } else { 0 };
     for (at, value) in [(4, 5), (8, 7), (12, random.u32_below(5))] {
@@ -180,5 +156,40 @@ fn steady(bytes: &mut [u8], random: &mut Random) {
         if at < bytes.len() && !random.one_in(4) {
             bytes[at] = random.pick(&[b'B', b'S', 0, 1]);
         }
+    }
+    let volume = random.pick(&[24, 28, 32, 36]);
+    if volume + 4 <= bytes.len() && random.one_in(4) {
+        bytes[volume..volume + 4].fill(0);
+    }
+}
+
+#[cfg(test)]
+mod tests {
+    use super::{with_bad_fields, Random, NANOSECONDS_PER_SECOND};
+    use crate::make::messages::{modify, BUY};
+    use crate::wire::Body;
+    use std::collections::HashSet;
+
+    /// A 101 has four fields with a rule, so 15 sets of bad ones.
+    #[test]
+    fn every_set_of_bad_fields_is_drawn() {
+        let mut random = Random::new(1, "bad fields");
+        let mut drawn = HashSet::new();
+        for _ in 0..1_000 {
+            let message = with_bad_fields(modify(1, 1, BUY, 1000, 10), &mut random);
+            let Body::Modify {
+                volume,
+                position,
+                side,
+                ..
+            } = message.body
+            else {
+                panic!("the type has changed: {message:?}");
+            };
+            let nanoseconds = message.nanoseconds >= NANOSECONDS_PER_SECOND;
+            drawn.insert((nanoseconds, volume == 0, position > 1, side != BUY));
+        }
+        assert!(!drawn.contains(&(false, false, false, false)));
+        assert_eq!(drawn.len(), 15);
     }
 }

@@ -1,5 +1,6 @@
 //! Makers of test input: messages, feeds, lists of calls.
 
+pub mod bad_fields;
 pub(crate) mod call_list;
 mod call_maker;
 pub mod calls;

@@ -1,6 +1,7 @@
 //! Small files named after the cases of document 01, "A day in symbol ABC", its easy errors and the
 //! corners of its rules. `NAME.feed` is for the program, `NAME.calls` for the probe.
 
+mod bad_fields;
 mod book;
 mod day;
 mod fields;
@@ -31,12 +32,19 @@ impl Cases {
         listed::add_to(&mut cases);
         printout::add_to(&mut cases);
         fields::add_to(&mut cases);
+        bad_fields::add_to(&mut cases);
         book::add_to(&mut cases);
         record::add_to(&mut cases);
         registering::add_to(&mut cases);
         page::add_to(&mut cases);
         stream::add_to(&mut cases);
         cases
+    }
+
+    /// What is in the file of that name.
+    pub fn file(&self, name: &str) -> Option<&[u8]> {
+        let found = self.files.iter().find(|(file, _)| file == name);
+        found.map(|(_, bytes)| bytes.as_slice())
     }
 
     pub fn write_into(&self, folder: &Path) -> io::Result<()> {

@@ -5,7 +5,7 @@ use super::Cases;
 use crate::make::messages::*;
 
 /// A message of a type outside the table, of that size.
-fn unknown(size: u16) -> Vec<u8> {
+pub fn unknown(size: u16) -> Vec<u8> {
     let mut bytes = vec![0x5A; usize::from(size)];
     bytes[..2].copy_from_slice(&size.to_le_bytes());
     bytes[2..4].copy_from_slice(&999_u16.to_le_bytes());

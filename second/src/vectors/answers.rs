@@ -2,7 +2,7 @@
 //! `R` (how far a message reaches), `D` (read one), `M` (write one made by hand).
 
 use super::hand::{Hand, LARGEST_ROOM};
-use crate::answer::number;
+use crate::answer::{number, offset_field};
 use crate::cursor::{hex, Cursor};
 use crate::wire::{extent, read, write, Body, Message};
 
@@ -46,6 +46,7 @@ fn decoded(bytes: &[u8]) -> String {
         plain[..own.len()].copy_from_slice(own);
     }
     let mut line = format!("D,{},{}", number(&message), hex(&plain));
+    line += &offset_field(&message);
     if let Ok(message) = &message {
         line += &format!(",{}", message.kind());
         for value in scalars(message) {
@@ -61,7 +62,9 @@ fn written(hand: &Hand, room: usize) -> String {
         return format!("M,3,0,{}", hex(&buffer));
     };
     let done = write(&message, &mut buffer);
-    format!("M,{},{},{}", number(&done), done.unwrap_or(0), hex(&buffer))
+    let count = done.unwrap_or(0);
+    let offset = offset_field(&done);
+    format!("M,{},{count},{}{offset}", number(&done), hex(&buffer))
 }
 
 /// The byte array of a message; none in most types.
@@ -77,14 +80,9 @@ fn plain_bytes(message: &Message) -> &[u8] {
 
 /// The numbers of a message in the order of the table.
 fn scalars(message: &Message) -> Vec<u64> {
-    let mut values = Vec::new();
-    match message.body {
-        Body::Imbalance { seconds, .. }
-        | Body::Clear { seconds }
-        | Body::Status { seconds, .. } => values.push(u64::from(seconds)),
-        _ => {}
-    }
-    values.extend([message.nanoseconds, message.index, message.number].map(u64::from));
+    let head = [message.nanoseconds, message.index, message.number];
+    let seconds = message.body.seconds().into_iter();
+    let mut values: Vec<u64> = seconds.chain(head).map(u64::from).collect();
     values.extend(own_scalars(&message.body));
     values
 }

@@ -1,10 +1,10 @@
 //! The calls `M`: messages made by hand, written into buffers of all kinds of room.
 
 use super::hand::{Hand, LARGEST_ROOM};
-use super::raw::{raw, raws, Raw};
+use super::raw::{raws, Raw};
 
 /// Every field good, with a byte of its own in every place, spare bytes too.
-fn distinct(kind: u16) -> Hand {
+pub fn distinct(kind: u16) -> Hand {
     let mut plain = [0; 53];
     for (place, byte) in plain.iter_mut().enumerate() {
         *byte = 0xC1 + place as u8;
@@ -113,11 +113,4 @@ fn others(calls: &mut Vec<u8>) {
         };
         hand.push_call(calls, raw.size);
     }
-    let bad = Hand {
-        volume: 0,
-        side: 0,
-        nanoseconds: u32::MAX,
-        ..distinct(100)
-    };
-    bad.push_call(calls, raw(100).size);
 }

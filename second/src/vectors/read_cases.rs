@@ -14,7 +14,7 @@ fn push_extent(calls: &mut Vec<u8>, at: usize, bytes: &[u8]) {
     calls.extend(bytes);
 }
 
-fn push_decode(calls: &mut Vec<u8>, bytes: &[u8]) {
+pub fn push_decode(calls: &mut Vec<u8>, bytes: &[u8]) {
     calls.push(b'D');
     calls.extend((bytes.len() as u16).to_le_bytes());
     calls.extend(bytes);
@@ -215,17 +215,6 @@ fn pairs_of_faults(calls: &mut Vec<u8>) {
         put_u32(&mut bytes, wrong.nanoseconds, u32::MAX);
         bytes.push(0);
         put_u16(&mut bytes, 0, wrong.size as u16 + 1);
-        push_decode(calls, &bytes);
-    }
-    for wrong in raws().filter(|raw| raw.volume.is_some()) {
-        // Every checked field bad at once: 4, or 0 where the volume may be 0.
-        let mut bytes = wrong.distinct(0x44);
-        put_u32(&mut bytes, wrong.volume.map_or(0, |(at, _)| at), 0);
-        for place in [wrong.side, wrong.flag].into_iter().flatten() {
-            bytes[place] = 0x7E;
-        }
-        push_decode(calls, &bytes);
-        put_u32(&mut bytes, wrong.nanoseconds, 1_000_000_000);
         push_decode(calls, &bytes);
     }
 }

@@ -1,7 +1,4 @@
-//! The typed message, its type numbers, its sizes and its field rules:
-//! document 01, "Message layouts".
-
-use crate::answer::Refusal;
+//! The typed message, its type numbers and its sizes: document 01, "Message layouts".
 
 pub const ADD: u16 = 100;
 pub const MODIFY: u16 = 101;
@@ -106,6 +103,18 @@ pub enum Body {
     },
 }
 
+impl Body {
+    /// The seconds of form S; none in form N.
+    pub fn seconds(&self) -> Option<u32> {
+        match *self {
+            Body::Imbalance { seconds, .. }
+            | Body::Clear { seconds }
+            | Body::Status { seconds, .. } => Some(seconds),
+            _ => None,
+        }
+    }
+}
+
 /// The size of a type's messages; none for a type outside the table.
 pub fn size_of_type(kind: u16) -> Option<usize> {
     Some(match kind {
@@ -144,38 +153,4 @@ impl Message {
             Body::Status { .. } => STATUS,
         }
     }
-
-    /// Answers 4 to a bad field.
-    pub fn check(&self) -> Result<(), Refusal> {
-        let good = match self.body {
-            Body::Add { volume, side, .. } => is_side(side) && volume != 0,
-            Body::Modify {
-                volume,
-                position,
-                side,
-                ..
-            } => is_side(side) && is_flag(position) && volume != 0,
-            Body::Execute {
-                volume, printable, ..
-            } => is_flag(printable) && volume != 0,
-            Body::Replace { volume, side, .. } => is_side(side) && volume != 0,
-            Body::Trade {
-                volume, printable, ..
-            } => is_flag(printable) && volume != 0,
-            _ => true,
-        };
-        if good && self.nanoseconds < NANOSECONDS_PER_SECOND {
-            Ok(())
-        } else {
-            Err(Refusal::Field)
-        }
-    }
-}
-
-fn is_side(byte: u8) -> bool {
-    byte == b'B' || byte == b'S'
-}
-
-fn is_flag(byte: u8) -> bool {
-    byte <= 1
 }

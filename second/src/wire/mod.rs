@@ -3,6 +3,7 @@
 pub(crate) mod bytes;
 pub(crate) mod message;
 mod read;
+mod rules;
 pub(crate) mod write;
 
 pub use message::{Body, Message};

@@ -30,11 +30,8 @@ fn encode(message: &Message) -> Pen {
         count: 2,
     };
     pen.u16(message.kind());
-    match message.body {
-        Body::Imbalance { seconds, .. }
-        | Body::Clear { seconds }
-        | Body::Status { seconds, .. } => pen.u32(seconds),
-        _ => {}
+    if let Some(seconds) = message.body.seconds() {
+        pen.u32(seconds);
     }
     pen.u32(message.nanoseconds);
     pen.u32(message.index);

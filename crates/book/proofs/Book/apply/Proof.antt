@@ -61,7 +61,8 @@ returns-3 c =
     let s = now (k .before .before .before .before .before .args .s) in
     move-goes (k .before .before .before .before .before .args .self) s (k .before .before .before .before .before .args .at) (k .before .reach .given .0 .0) (reaches k) (c .before .before .decode .result) _
     (c .before .before .decode .ensures .0 ∙ ap (λ (n : ℕ). readOf (take n (drop (k .before .before .before .before .before .args .at) s))) (add-sub-cancel-left (k .before .before .before .before .before .args .at) (k .before .reach .given .0 .0)))
-    (c .before .step .ensures)
+    (c .before .step .ensures .0)
+    (c .before .step .ensures .1)
 
 pub apply-spec : {M : Type 1} → statement M
 apply-spec =

@@ -1,6 +1,7 @@
--- What was refused is handed on with its number, and a message acts as it means.
-use mathlib.Core.Path.{sym, _∙_, ap}
-use Rattle.book.specs.Step.{actedAs, stepOf}
+-- What was refused is handed on with its number and offset, and a message acts as it means.
+use mathlib.Core.Path.{sym}
+use Rattle.book.specs.State.{view}
+use Rattle.book.specs.Step.{stepOf}
 use Rattle.book.proofs.Acting.{refuses, refused-read, read-acts}
 use borrow.Author.Needs.{needs}
 use Rattle.book.proofs.Book.step.Statement.{statement}
@@ -12,32 +13,24 @@ enum-known-a c = search needs
 number-of-answer-requires : tie.Need-number-of-answer-requires
 number-of-answer-requires c κs = search needs
 
+offset-of-answer-requires : tie.Need-offset-of-answer-requires
+offset-of-answer-requires c κs = search needs
+
 returns : tie.Need-returns
 unfolding stepOf
-returns c = rw (c .number-of-answer .ensures) (refuses _ _ _ (refused-read _ (c .before .before .args .d .answer) (c .before .match .keys2)))
+returns c = (
+  rw (c .before .number-of-answer .ensures) (refuses _ _ _ (refused-read _ (c .before .before .before .args .d .answer) (c .before .before .match .keys2))),
+  c .offset-of-answer .ensures,
+)
 
-act-of-requires : tie.Need-act-of-requires
-act-of-requires c κs = search needs
-
-enum-known-act : tie.Need-enum-known-act
-enum-known-act c = search needs
-
-clear-requires : tie.Need-clear-requires
-clear-requires c κs = search needs
-
-enum-known-act-2 : tie.Need-enum-known-act-2
-enum-known-act-2 c = search needs
-
-meet-requires : tie.Need-meet-requires
-meet-requires c κs = search needs
+act-requires : tie.Need-act-requires
+act-requires c κs = search needs
 
 returns-2 : tie.Need-returns-2
 unfolding stepOf
-returns-2 c = rw (read-acts _ _ _ _ (c .before .before .before .before .before .before .a .given .1) (ap actedAs (sym (c .before .before .act .given .1)) ∙ c .before .before .before .before .act-of .ensures)) (c .clear .ensures)
-
-returns-3 : tie.Need-returns-3
-unfolding stepOf
-returns-3 c = rw (read-acts _ _ _ _ (c .before .before .before .before .before .before .a .given .1) (ap actedAs (sym (c .before .before .act2 .given .1)) ∙ c .before .before .before .before .act-of .ensures)) (c .meet .ensures)
+returns-2 c =
+    let read = read-acts (view (c .before .before .before .before .before .args .self)) (c .before .before .before .before .before .args .d .answer) _ (c .before .before .before .a .given .1) in
+    (rw (read .0) (c .before .act .ensures), sym (read .1))
 
 pub step-spec : {M : Type 1} → statement M
 step-spec =
@@ -45,11 +38,7 @@ step-spec =
     (tie.spec
     enum-known-a
     number-of-answer-requires
+    offset-of-answer-requires
     returns
-    act-of-requires
-    enum-known-act
-    clear-requires
-    enum-known-act-2
-    meet-requires
-    returns-2
-    returns-3)
+    act-requires
+    returns-2)

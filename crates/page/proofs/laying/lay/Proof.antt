@@ -6,7 +6,7 @@ use denote.Ref.{now}
 use lib.ListN.{length}
 use Rattle.columns.specs.Held.{held}
 use Rattle.columns.proofs.Holding.{held-within}
-use Rattle.book.proofs.Walking.{goes-on}
+use Rattle.book.proofs.Walking.{goes-on, passed-offset}
 use Rattle.page.proofs.Sheets.{Rest, rest-all, too-late, rest-stops, rest-full, rest-on}
 use borrow.Author.Needs.{needs}
 use Rattle.page.proofs.laying.lay.Statement.{statement}
@@ -59,7 +59,9 @@ part-passed-line-end : tie.Need-part-passed-line-end Inv-loop μ-loop
 part-passed-line-end c = omega (arith, on (c .before .before .before) .0, on (c .before .before .before) .1)
 
 passed-line-requires : tie.Need-passed-line-requires Inv-loop μ-loop
-passed-line-requires c κs = search needs
+passed-line-requires c κs =
+    let k = c .before .before .before .before in
+    passed-offset (k .before .before .loop .b) (now (k .before .before .before .before .before .before .args .stream)) (k .before .before .loop .here) (k .before .apply .result) (k .before .apply .ensures) (k .if2 .left)
 
 append-requires : tie.Need-append-requires Inv-loop μ-loop
 append-requires c κs = omega (arith, c .before .before .before .before .before .if3 .left, c .before .before .before .before .before .before .before .before .loop .inv .0, c .before .before .before .before .before .before .before .before .loop .inv .1 .front .within)

@@ -35,7 +35,7 @@ returns-2 : tie.Need-returns-2
 returns-2 c =
     let k = c .before .before .before .before .before in
     let a = k .before .before .before .args in
-    (λ i. record { outcome = done (k .count .result); out = (c .before .before .copy .ensures) i })
+    (λ i. record { outcome = done (k .count .result); offset = 0; out = (c .before .before .copy .ensures) i })
     ∙ laid-copied (held (a .l)) _ (now (a .out)) _ (k .count .ensures) (k .before .bytes .ensures .shows) (c .before .before .before .before .if1 .left)
 
 pub emit-spec : {M : Type 1} → statement M

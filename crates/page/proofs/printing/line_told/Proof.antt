@@ -1,11 +1,13 @@
--- By the checks in their order: each refusal is one law of printing, and what passes them all is laid.
+-- By the type and the first bad field: each refusal is one law of printing, and what passes both has its line printed.
 use mathlib.Core.Path.{_≡_, sym, ap, _∙_}
 use mathlib.Core.Bool.{Bool, false}
 use denote.Ref.{now}
 use borrow.Author.Needs.{needs}
-use Rattle.wire.specs.Message.{typeOf, hasBadField}
-use Rattle.page.specs.Printing.{hasNoLine, laid}
-use Rattle.page.proofs.Cases.{line-no-type, line-bad-field, line-no-symbol, line-bad-second, line-good}
+use Rattle.wire.specs.Message.{typeOf, faultIn}
+use Rattle.wire.specs.declared.Fault.{Fault}
+use Rattle.wire.proofs.OneOutcome.{one-fault}
+use Rattle.page.specs.Printing.{hasNoLine}
+use Rattle.page.proofs.Cases.{line-no-type, line-bad-field, line-fields-good}
 use Rattle.page.proofs.printing.line_told.Statement.{statement}
 use Rattle.page.proofs.printing.line_told.Tie as tie
 
@@ -15,8 +17,8 @@ type-is k x e = ap hasNoLine (sym (k .before .type-of .ensures)) ∙ sym (k .has
 has-line : (k : tie.Else1) → hasNoLine (typeOf (k .before .before .before .before .args .m)) ≡ false
 has-line k = type-is (k .before) _ (k .if1 .left)
 
-fields-good : (k : tie.Else2) → hasBadField (k .before .before .before .before .before .before .args .m) ≡ false
-fields-good k = sym (k .before .has-bad-field .ensures) ∙ k .if2 .left
+fault-is : (k : tie.After-bad-field) (x : Fault) → k .bad-field .result ≡ x → faultIn (k .before .before .before .before .before .args .m) ≡ x
+fault-is k x e = sym (one-fault _ _ (k .bad-field .ensures)) ∙ e
 
 type-of-requires : tie.Need-type-of-requires
 type-of-requires c κs = search needs
@@ -29,39 +31,33 @@ returns c =
     let a = c .before .before .before .before .args in
     sym (line-no-type (a .s) (a .m) (a .plain) (a .sequence) (a .second) (now (a .out)) (type-is (c .before) _ (c .if1 .taken)))
 
-has-bad-field-requires : tie.Need-has-bad-field-requires
-has-bad-field-requires c κs = search needs
+bad-field-requires : tie.Need-bad-field-requires
+bad-field-requires c κs = search needs
+
+enum-known-fault : tie.Need-enum-known-fault
+enum-known-fault c = search needs
+
+enum-told : tie.Need-enum-told
+enum-told c = search needs
+
+line-good-requires : tie.Need-line-good-requires
+line-good-requires c κs = search needs
 
 returns-2 : tie.Need-returns-2
 returns-2 c =
-    let a = c .before .before .before .before .before .before .args in
-    sym (line-bad-field (a .s) (a .m) (a .plain) (a .sequence) (a .second) (now (a .out)) (has-line (c .before .before)) (sym (c .before .has-bad-field .ensures) ∙ c .if2 .taken))
-
-returns-3 : tie.Need-returns-3
-returns-3 c =
-    let a = c .before .before .before .before .before .before .before .args in
-    sym (line-no-symbol (a .s) (a .m) (a .plain) (a .sequence) (a .second) (now (a .out)) (has-line (c .before .before .before)) (fields-good (c .before)) (c .if3 .taken))
-
-returns-4 : tie.Need-returns-4
-returns-4 c =
-    let a = c .before .before .before .before .before .before .before .before .args in
-    sym (line-bad-second (a .s) (a .m) (a .plain) (a .sequence) (a .second) (now (a .out)) (has-line (c .before .before .before .before)) (fields-good (c .before .before)) (c .before .if3 .left) (c .if4 .taken))
-
-line-of-requires : tie.Need-line-of-requires
-line-of-requires c κs = search needs
-
-emit-requires : tie.Need-emit-requires
-emit-requires c κs = search needs
+    let k = c .before .before .before in
+    let a = k .before .before .before .before .before .args in
+    sym (line-bad-field (a .s) (a .m) (a .plain) (a .sequence) (a .second) (now (a .out)) (has-line (k .before)) _ (fault-is k _ (c .before .fault .given .1)))
 
 same-length : tie.Need-same-length
 same-length c = search needs
 
-returns-5 : tie.Need-returns-5
-returns-5 c =
-    let k = c .before .before .before .before .before in
-    let a = k .before .before .before .before .before .before .before .before .args in
-    let good = line-good (a .s) (a .m) (a .plain) (a .sequence) (a .second) (now (a .out)) (has-line (k .before .before .before .before)) (fields-good (k .before .before)) (k .before .if3 .left) (k .if4 .left) in
-    c .before .before .emit .ensures ∙ ap (λ x. laid x (now (a .out))) (c .before .before .before .before .line-of .ensures) ∙ sym good
+returns-3 : tie.Need-returns-3
+returns-3 c =
+    let k = c .before .before .before .before .before .before in
+    let a = k .before .before .before .before .before .args in
+    c .before .before .line-good .ensures
+    ∙ sym (line-fields-good (a .s) (a .m) (a .plain) (a .sequence) (a .second) (now (a .out)) (has-line (k .before)) (fault-is k _ (c .before .before .before .before .enum-told .given .1)))
 
 pub line-told-spec : {M : Type 1} → statement M
 line-told-spec =
@@ -70,11 +66,10 @@ line-told-spec =
     type-of-requires
     has-no-line-requires
     returns
-    has-bad-field-requires
+    bad-field-requires
+    enum-known-fault
+    enum-told
+    line-good-requires
     returns-2
-    returns-3
-    returns-4
-    line-of-requires
-    emit-requires
     same-length
-    returns-5)
+    returns-3)

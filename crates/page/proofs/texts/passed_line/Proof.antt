@@ -1,6 +1,7 @@
 -- By the answer, by what was read and by its type: each case is one law of the printout.
 use mathlib.Core.Path.{_≡_, ap, sym, _∙_}
 use mathlib.Core.Bool.{Bool}
+use Prim.Native.Nat.{ℕ}
 use denote.Ref.{now}
 use Rattle.wire.specs.Outcome.{done}
 use Rattle.wire.specs.Reading.{Read, answeredAs}
@@ -13,7 +14,7 @@ use Rattle.symbols.specs.declared.registering.Listing.{Listing}
 use Rattle.columns.specs.Columns.{rendered}
 use Rattle.page.specs.Columns.{columnsOf}
 use Rattle.page.specs.Printing.{hasNoLine}
-use Rattle.page.specs.Printout.{sequenceOf, doneText, passedText}
+use Rattle.page.specs.Printout.{refusal, sequenceOf, doneText, passedText}
 use Rattle.page.proofs.Printouts.{passed-refused, passed-done, unread-prints, no-line-prints, line-prints}
 use borrow.Author.Needs.{needs}
 use Rattle.page.proofs.texts.passed_line.Statement.{statement}
@@ -22,18 +23,18 @@ use Rattle.page.proofs.texts.passed_line.Tie as tie
 -- of a done message: what was read, then what is printed of it
 done-is : (k : tie.After-decode) → k .before .before .before .args .answer ≡ 0 →
     passedText (record { view = view (k .before .before .before .args .book); answer = k .before .before .before .args .answer }) (now (k .before .before .before .args .message)) (k .before .before .before .args .place) (k .before .before .before .args .second)
-    ≡ doneText (view (k .before .before .before .args .book)) (answeredAs (k .decode .result .answer)) (k .decode .result .plain) (k .before .before .before .args .place) (k .before .before .before .args .second)
+    ≡ doneText (view (k .before .before .before .args .book)) (answeredAs (k .decode .result .answer) .outcome) (k .decode .result .plain) (k .before .before .before .args .place) (k .before .before .before .args .second)
 done-is k e =
     let a = k .before .before .before .args in
     passed-done (view (a .book)) (now (a .message)) (a .answer) (a .place) (a .second) e
     ∙ ap (λ (d : Read). doneText (view (a .book)) (d .outcome) (d .plain) (a .place) (a .second)) (sym (k .decode .ensures .0))
 
 message-is : (k : tie.After-decode) {m : Message} → k .decode .result .answer ≡ Answer.Message m →
-    doneText (view (k .before .before .before .args .book)) (answeredAs (k .decode .result .answer)) (k .decode .result .plain) (k .before .before .before .args .place) (k .before .before .before .args .second)
+    doneText (view (k .before .before .before .args .book)) (answeredAs (k .decode .result .answer) .outcome) (k .decode .result .plain) (k .before .before .before .args .place) (k .before .before .before .args .second)
     ≡ doneText (view (k .before .before .before .args .book)) (done m) (k .decode .result .plain) (k .before .before .before .args .place) (k .before .before .before .args .second)
 message-is k e =
     let a = k .before .before .before .args in
-    ap (λ (x : Answer). doneText (view (a .book)) (answeredAs x) (k .decode .result .plain) (a .place) (a .second)) e
+    ap (λ (x : Answer). doneText (view (a .book)) (answeredAs x .outcome) (k .decode .result .plain) (a .place) (a .second)) e
 
 -- what the test of the type said
 type-is : (k : tie.After-has-no-line) (x : Bool) → k .has-no-line .result ≡ x → hasNoLine (typeOf (k .before .before .before .a .given .0 .0)) ≡ x
@@ -45,7 +46,9 @@ refusal-line-requires c κs = search needs
 returns : tie.Need-returns
 returns c =
     let a = c .before .before .before .args in
-    c .refusal-line .ensures ∙ sym (passed-refused (view (a .book)) (now (a .message)) (a .answer) (a .place) (a .second) (c .before .if1 .taken))
+    c .refusal-line .ensures
+    ∙ ap (λ (o : ℕ). rendered (refusal (a .answer) o (a .place))) (c .before .before .before .pre)
+    ∙ sym (passed-refused (view (a .book)) (now (a .message)) (a .answer) (a .place) (a .second) (c .before .if1 .taken))
 
 decode-requires : tie.Need-decode-requires
 decode-requires c κs = search needs

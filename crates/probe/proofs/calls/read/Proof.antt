@@ -46,6 +46,12 @@ add-position c = let k = c .before .before .before .before .before .before .befo
 position-requires : tie.Need-position-requires
 position-requires c κs = search needs
 
+offset-of-answer-requires : tie.Need-offset-of-answer-requires
+offset-of-answer-requires c κs = search needs
+
+offset-requires : tie.Need-offset-requires
+offset-requires c κs = search needs
+
 enum-told : tie.Need-enum-told
 enum-told c = search needs
 
@@ -88,6 +94,8 @@ read-spec =
     answer-requires
     add-position
     position-requires
+    offset-of-answer-requires
+    offset-requires
     enum-told
     answer-requires-2
     position-requires-2

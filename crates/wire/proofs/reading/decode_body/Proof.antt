@@ -1,11 +1,10 @@
 -- By the first bad field: each case is one law of reading.
 use mathlib.Core.Path.{_≡_, sym, ap, _∙_}
 use denote.Ref.{now}
-use Rattle.wire.specs.declared.fields.Fault.{Fault}
-use Rattle.wire.specs.Outcome.{done}
+use Rattle.wire.specs.declared.fields.Fields.{Fields}
+use Rattle.wire.specs.declared.Fault.{Fault}
 use Rattle.wire.specs.Fields.{faultOf, fieldsAt}
-use Rattle.wire.specs.Message.{messageOf}
-use Rattle.wire.specs.Reading.{decodedAs}
+use Rattle.wire.specs.Reading.{decodedAs, goodRead}
 use Rattle.wire.proofs.Cases.{read-good, read-bad-field}
 use borrow.Author.Needs.{needs}
 use Rattle.wire.proofs.reading.decode_body.Statement.{statement}
@@ -20,31 +19,27 @@ fields-at-requires c κs = search needs
 fault-of-requires : tie.Need-fault-of-requires
 fault-of-requires c κs = search needs
 
-enum-told : tie.Need-enum-told
-enum-told c = search needs
-
-enum-told-2 : tie.Need-enum-told-2
-enum-told-2 c = search needs
+enum-known-fault : tie.Need-enum-known-fault
+enum-known-fault c = search needs
 
 refused-requires : tie.Need-refused-requires
 refused-requires c κs = search needs
 
+enum-told : tie.Need-enum-told
+enum-told c = search needs
+
+decode-good-requires : tie.Need-decode-good-requires
+decode-good-requires c κs = search needs
+
 returns : tie.Need-returns
-returns c = let k = c .before .before .before in
+returns c = let k = c .before .before .before .before in
     let a = k .before .before .before .args in
-    ap decodedAs (c .refused .ensures) ∙ sym (read-bad-field (now (a .s)) (a .l) _ (fault-is k _ (c .before .enum-told2 .given .1)))
-
-plain-at-requires : tie.Need-plain-at-requires
-plain-at-requires c κs = search needs
-
-message-of-requires : tie.Need-message-of-requires
-message-of-requires c κs = search needs
+    ap decodedAs (c .refused .ensures) ∙ sym (read-bad-field (now (a .s)) (a .l) _ (fault-is k _ (c .before .before .fault .given .1)))
 
 returns-2 : tie.Need-returns-2
-returns-2 c = let k = c .before .before .before .before in
+returns-2 c = let k = c .before .before .before in
     let a = k .before .before .before .args in
-    (λ i. record { outcome = done ((c .message-of .ensures ∙ ap (messageOf (a .l .kind)) (k .before .fields-at .ensures)) i); plain = c .before .plain-at .ensures i })
-    ∙ sym (read-good (now (a .s)) (a .l) (fault-is k _ (c .before .before .enum-told .given .1)))
+    c .decode-good .ensures ∙ ap (λ (f : Fields). goodRead (now (a .s)) (a .l) f) (k .before .fields-at .ensures) ∙ sym (read-good (now (a .s)) (a .l) (fault-is k _ (c .before .enum-told .given .1)))
 
 pub decode-body-spec : {M : Type 1} → statement M
 decode-body-spec =
@@ -52,10 +47,9 @@ decode-body-spec =
     (tie.spec
     fields-at-requires
     fault-of-requires
-    enum-told
-    enum-told-2
+    enum-known-fault
     refused-requires
+    enum-told
+    decode-good-requires
     returns
-    plain-at-requires
-    message-of-requires
     returns-2)

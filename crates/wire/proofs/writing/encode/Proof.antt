@@ -1,20 +1,19 @@
--- By the type's shape, the first bad field and the room: each case is one law of writing.
+-- By the type's shape and the first bad field: each case is one law of writing.
 use mathlib.Core.Path.{_≡_, sym, ap, _∙_, subst}
-use mathlib.Core.List.{_++_}
 use denote.Ref.{now}
-use lib.ListN.{length, drop}
+use lib.Dec.{ltb}
+use lib.ListN.{length}
 use Rattle.wire.specs.declared.table.Shape.{Shape}
-use Rattle.wire.specs.declared.fields.Fault.{Fault}
-use Rattle.wire.specs.Outcome.{done}
+use Rattle.wire.specs.declared.Fault.{Fault}
 use Rattle.wire.specs.Table.{shapeOf}
 use Rattle.wire.specs.Fields.{faultOf}
 use Rattle.wire.specs.Message.{fieldsOf, typeOf}
-use Rattle.wire.specs.Writing.{imageOf, Write, writeOf}
+use Rattle.wire.specs.Writing.{imageOf, Write, writeSized, writeOf}
 use Rattle.wire.specs.Bytes.{plainRoom}
 use Rattle.wire.specs.RoundTrip.{ReadsBack}
 use Rattle.wire.proofs.RoundTrip.{read-what-was-written}
 use Rattle.wire.proofs.Layouts.{layout-sane}
-use Rattle.wire.proofs.Cases.{write-unknown, write-bad-field, write-no-room, write-good}
+use Rattle.wire.proofs.Cases.{write-unknown, write-bad-field, write-good}
 use borrow.Author.Needs.{needs}
 use Rattle.wire.proofs.writing.encode.Statement.{statement}
 use Rattle.wire.proofs.writing.encode.Tie as tie
@@ -60,36 +59,31 @@ returns c = let a = c .before .before .before .before .before .before .args in
 fault-of-requires : tie.Need-fault-of-requires
 fault-of-requires c κs = search needs
 
+enum-known-fault : tie.Need-enum-known-fault
+enum-known-fault c = search needs
+
 enum-told-2 : tie.Need-enum-told-2
 enum-told-2 c = search needs
 
-enum-told-3 : tie.Need-enum-told-3
-enum-told-3 c = search needs
+encode-good-requires : tie.Need-encode-good-requires
+encode-good-requires c κs = layout-sane _ _ (known-is (c .before .before .before .before .before))
 
 returns-2 : tie.Need-returns-2
-returns-2 c = let s = c .before .before .before .before in
-    let a = c .before .before .before .before .before .before .before .before .before .before .args in
-    both (c .before .before .before .before .before .before .before) (sym (write-bad-field (a .m) (a .plain) (now (a .out)) (s .shape .given .0 .0) (known-is s) _ (fault-is (c .before .before) _ (c .enum-told3 .given .1))))
-
-returns-3 : tie.Need-returns-3
-returns-3 c = let s = c .before .before .before .before .before in
-    let a = c .before .before .before .before .before .before .before .before .before .before .before .args in
-    both (c .before .before .before .before .before .before .before .before) (sym (write-no-room (a .m) (a .plain) (now (a .out)) (s .shape .given .0 .0) (known-is s) (fault-is (c .before .before .before) _ (c .before .enum-told2 .given .1)) (c .if1 .taken)))
-
-put-message-requires : tie.Need-put-message-requires
-put-message-requires c κs = (layout-sane _ _ (known-is (c .before .before .before .before .before .before)), c .before .if1 .left)
+returns-2 c = let s = c .before .before .before .before .before in
+    let a = s .before .before .before .before .before .before .args in
+    both (s .before .before .before) (sym (write-bad-field (a .m) (a .plain) (now (a .out)) (s .shape .given .0 .0) (known-is s) _ (fault-is (c .before .before .before) _ (c .before .fault .given .1))))
 
 same-length : tie.Need-same-length
 same-length c = search needs
 
-returns-4 : tie.Need-returns-4
-returns-4 c = let p = c .before .before in
-    let s = c .before .before .before .before .before .before .before .before .before in
+returns-3 : tie.Need-returns-3
+returns-3 c = let s = c .before .before .before .before .before .before .before .before in
     let l = s .shape .given .0 .0 in
-    let a = c .before .before .before .before .before .before .before .before .before .before .before .before .before .before .before .args in
-    both (c .before .before .before .before .before .before .before .before .before .before .before .before)
-    ((λ i. record { outcome = done (l .size); out = (p .put-message .ensures ∙ (λ j. imageOf l (c .before .before .before .before .before .before .before .before .before .before .before .before .before .type-of .ensures j) (c .before .before .before .before .before .before .before .before .before .before .before .before .fields-of .ensures .0 j) (a .plain) ++ drop (l .size) (now (a .out)))) i })
-    ∙ sym (write-good (a .m) (a .plain) (now (a .out)) l (known-is s) (fault-is (c .before .before .before .before .before .before .before) _ (c .before .before .before .before .before .enum-told2 .given .1)) (c .before .before .before .before .if1 .left)))
+    let a = s .before .before .before .before .before .before .args in
+    both (s .before .before .before)
+    (c .before .before .encode-good .ensures
+    ∙ (λ j. writeSized (ltb (length (now (a .out))) (l .size)) (l .size) (imageOf l (s .before .before .before .before .type-of .ensures j) (s .before .before .before .fields-of .ensures .0 j) (a .plain)) (now (a .out)))
+    ∙ sym (write-good (a .m) (a .plain) (now (a .out)) l (known-is s) (fault-is (c .before .before .before .before .before .before) _ (c .before .before .before .before .enum-told2 .given .1))))
 
 pub encode-spec : {M : Type 1} → statement M
 encode-spec =
@@ -102,10 +96,9 @@ encode-spec =
     enum-told
     returns
     fault-of-requires
+    enum-known-fault
     enum-told-2
-    enum-told-3
+    encode-good-requires
     returns-2
-    returns-3
-    put-message-requires
     same-length
-    returns-4)
+    returns-3)

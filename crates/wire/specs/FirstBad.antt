@@ -1,0 +1,49 @@
+-- Where the first bad field stands (M-111), said without the definition that finds it.
+use Prim.Native.Nat.{ℕ, _≤_, _<_}
+use mathlib.Core.Bool.{true, false}
+use mathlib.Core.List.{List, [], _∷_}
+use mathlib.Core.Logic.{_⊎_, _≢_}
+use mathlib.Core.Path.{_≡_}
+use Rattle.wire.specs.Table.{shapeOf}
+use Rattle.wire.specs.Fields.{Check, fieldsAt, checksOf}
+use Rattle.wire.specs.Message.{typeOf, fieldsOf}
+use Rattle.wire.specs.Reading.{leastSize, msgSize, msgType}
+use Rattle.wire.specs.declared.table.Layout.{Layout}
+use Rattle.wire.specs.declared.table.Shape.{Shape}
+use Rattle.wire.specs.declared.fields.Fields.{Fields}
+use Rattle.wire.specs.declared.Message.{Message}
+
+-- a field at n is bad
+abbrev pub BadAt : ℕ → List Check → Type 0
+BadAt n [] = ⊥
+BadAt n (c ∷ cs) = ((c .at ≡ n) × (c .bad ≡ true)) ⊎ BadAt n cs
+
+-- every field before n is good
+abbrev pub GoodBefore : ℕ → List Check → Type 0
+GoodBefore n [] = Unit {0}
+GoodBefore n (c ∷ cs) = (c .at < n → c .bad ≡ false) × GoodBefore n cs
+
+-- the first bad field is the one at n, which is behind Msg Size and Msg Type and within the message
+pub record FirstBad (l : Layout) (f : Fields) (n : ℕ) : Type 0 where
+  pub bad : BadAt n (checksOf l f)
+  pub before : GoodBefore n (checksOf l f)
+  pub behind-type : leastSize ≤ n
+  pub within : n < l .size
+
+-- of bytes: a message of a known type and of the type's size
+pub record FirstBadIn (s : List ℕ) (n : ℕ) : Type 0 where
+  pub layout : Layout
+  pub known : shapeOf (msgType s) ≡ Shape.Known layout
+  pub size : msgSize s ≡ layout .size
+  pub first : FirstBad layout (fieldsAt s layout) n
+
+-- of a typed message
+pub record FirstBadOf (m : Message) (n : ℕ) : Type 0 where
+  pub layout : Layout
+  pub known : shapeOf (typeOf m) ≡ Shape.Known layout
+  pub first : FirstBad layout (fieldsOf m) n
+
+-- the offset beside an answer: with 4 the one that is meant, with any other none
+pub record Locates (Meant : ℕ → Type 0) (number offset : ℕ) : Type 0 where
+  pub bad-field : number ≡ 4 → Meant offset
+  pub no-field : number ≢ 4 → offset ≡ 0
