@@ -1,6 +1,6 @@
 -- A question about an index is answered from the symbol at its place, or from none.
 use mathlib.Core.Bool.{Bool, false}
-use mathlib.Core.Option.{Option, Option·map}
+use mathlib.Core.Option.{Option·map}
 use mathlib.Core.Path.{_≡_, sym, ap, _∙_}
 use Prim.Native.Nat.{ℕ, _<_, _≤_}
 use Rattle.places.specs.Places.{symbols}

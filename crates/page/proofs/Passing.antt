@@ -23,7 +23,7 @@ use Rattle.book.proofs.Streams.{every-stream}
 use Rattle.columns.specs.Held.{room}
 use Rattle.page.specs.Printing.{lastSecond}
 use Rattle.page.specs.Printout.{passedText, nextPlace, textsOf}
-use Rattle.page.specs.Laying.{Sheet, more, Laying, ended, layFrom, layOf, Lays}
+use Rattle.page.specs.Laying.{Sheet, more, Laying, layFrom, layOf, Lays}
 use Rattle.page.specs.declared.laying.Laid.{Laid}
 
 -- ---- texts one behind the other
