@@ -3,8 +3,9 @@ use Prim.Native.Nat.{ℕ, _≤_}
 use mathlib.Core.List.{List, [], _∷_, _++_}
 use mathlib.Core.Path.{_≡_}
 use lib.ListN.{length, take, drop}
-use Rattle.wire.specs.Outcome.{done}
-use Rattle.wire.specs.Reading.{reachOf, readOf}
+use Rattle.wire.specs.Outcome.{done, only}
+use Rattle.wire.specs.Reading.{reachOf, readAs, readOf}
+use Rattle.wire.specs.Writing.{leaving}
 use Rattle.book.specs.State.{View, view, Wf}
 use Rattle.book.specs.Quote.{noQuote, quoteOf}
 use Rattle.book.specs.Walk.{landing, moveOf, stepsOf, Moves}
@@ -112,9 +113,9 @@ rows =
 
 -- ---- L: the line of #3, an add, read from its bytes, into any buffer that has room
 pub record LineL : Type 0 where
-  pub reads : readOf (add 3 1001 buy 1234500 200) ≡ record { outcome = done marked.add; offset = 0; plain = marked.firm }
+  pub reads : readOf (add 3 1001 buy 1234500 200) ≡ readAs (only (done marked.add)) marked.firm
   pub by-calls : {b : Book} (p : Printed) (out after : List ℕ) → HasABC b → (Wf b → printed p after ≡ lineOf (told b marked.add) marked.add marked.firm marked.sequenceL marked.secondL out)
-      → length marked.lineL ≤ length out → printed p after ≡ record { outcome = done (length marked.lineL); offset = 0; out = marked.lineL ++ drop (length marked.lineL) out }
+      → length marked.lineL ≤ length out → printed p after ≡ leaving (only (done (length marked.lineL))) (marked.lineL ++ drop (length marked.lineL) out)
 
 -- ---- all of the day
 pub record Day : Type 0 where

@@ -11,7 +11,7 @@ use lib.ListN.{length, take, drop}
 use borrow.Author.Tests.{eqb-true, eqb-false, ltb-true, ltb-false}
 use Rattle.wire.specs.Outcome.{Outcome, done, refused, numberOf}
 use Rattle.wire.specs.Reading.{leastSize, msgSize, reachOf, readOf}
-use Rattle.wire.specs.Writing.{countOf, Write, writeOf}
+use Rattle.wire.specs.Writing.{countOf, writeOf}
 use Rattle.wire.specs.Fields.{faultAs}
 use Rattle.wire.specs.Message.{faultIn, badFieldOf}
 use Rattle.wire.specs.FirstBad.{Locates}
@@ -19,7 +19,7 @@ use Rattle.wire.specs.declared.Fault.{Fault}
 use Rattle.wire.specs.declared.Message.{Message}
 use Rattle.wire.proofs.Cases.{done-is-not-refused, reached, reach-short, reach-small, reach-beyond, reach-size}
 use Rattle.wire.proofs.Offsets.{read-locates, field-locates, write-locates}
-use Rattle.wire.proofs.Refusing.{reach-refused, read-refused, reached-refused, write-refused, write-fills}
+use Rattle.wire.proofs.Refusing.{reach-refused, read-refused, read-zeros, reached-refused, write-refused, write-untouched, write-fills}
 use Rattle.feed.specs.Reader.{Fit, fits, misfit, no-room, ruled, Act, clearing, numbered, indexOf}
 use Rattle.places.specs.Places.{among}
 use Rattle.symbols.specs.State.{Entry, entries, itself, placeOf}
@@ -64,7 +64,7 @@ reach-numbers s = go (reachOf s) (reach-refused (OneOf (0 ∷ 1 ∷ 2 ∷ [])) r
 
 read-numbers : (s : List ℕ) → OneOf (0 ∷ 1 ∷ 2 ∷ 3 ∷ 4 ∷ []) (numberOf (readOf s .outcome))
 unfolding among
-read-numbers s = go (readOf s .outcome) (λ n e. read-refused (OneOf (0 ∷ 1 ∷ 2 ∷ 3 ∷ 4 ∷ [])) refl refl refl s refl n e .number)
+read-numbers s = go (readOf s .outcome) (read-refused (OneOf (0 ∷ 1 ∷ 2 ∷ 3 ∷ 4 ∷ [])) refl refl refl s refl)
   where
     go : (x : Outcome Message) → ((n : ℕ) → x ≡ refused n → OneOf (0 ∷ 1 ∷ 2 ∷ 3 ∷ 4 ∷ []) n) → OneOf (0 ∷ 1 ∷ 2 ∷ 3 ∷ 4 ∷ []) (numberOf x)
     go (done m) h = refl
@@ -72,7 +72,7 @@ read-numbers s = go (readOf s .outcome) (λ n e. read-refused (OneOf (0 ∷ 1 �
 
 write-numbers : (m : Message) (plain out : List ℕ) → OneOf (0 ∷ 4 ∷ 15 ∷ []) (numberOf (writeOf m plain out .outcome))
 unfolding among
-write-numbers m plain out = go (writeOf m plain out .outcome) (λ n e. write-refused m plain out (OneOf (0 ∷ 4 ∷ 15 ∷ [])) refl refl n e .number)
+write-numbers m plain out = go (writeOf m plain out .outcome) (write-refused m plain out (OneOf (0 ∷ 4 ∷ 15 ∷ [])) refl refl)
   where
     go : (x : Outcome ℕ) → ((n : ℕ) → x ≡ refused n → OneOf (0 ∷ 4 ∷ 15 ∷ []) n) → OneOf (0 ∷ 4 ∷ 15 ∷ []) (numberOf x)
     go (done m) h = refl
@@ -207,6 +207,14 @@ module _ {b : Book} (p : Reached b) {s : List ℕ} {at : ℕ} {r : Moved} (m : M
           absurd (reach-refused (λ (j : ℕ). staling j ≡ true → ⊥) (not-staling 1 refl) (not-staling 2 refl) (drop at s) k e (rw number at h))
       reaches (done n) e = reads n e (readOf (take n (drop at s)) .outcome) refl
 
+  -- the message that stands there is the one that reaches from there
+  bytes-there : (n : ℕ) → reachOf (drop at s) ≡ done n → {k : ℕ} (x : BadThere s at k) → take n (drop at s) ≡ x .bytes
+  bytes-there n e x = ap (λ (y : Outcome ℕ). taken y) (sym e ∙ x .stands .reaches) ∙ x .stands .bytes
+    where
+      taken : Outcome ℕ → List ℕ
+      taken (done j) = take j (drop at s)
+      taken (refused j) = []
+
   -- a 4 is reading's, and so is its offset
   apply-locates : Locates (BadThere s at) (r .answer) (r .offset)
   unfolding moveOf
@@ -217,6 +225,7 @@ module _ {b : Book} (p : Reached b) {s : List ℕ} {at : ℕ} {r : Moved} (m : M
           let number : r .answer ≡ k = answered ∙ ap (λ (y : Outcome ℕ). moveBy y (view b) s at .answer) e in
           record {
             bad-field = λ four. absurd (reach-refused (λ (j : ℕ). j ≢ 4) (λ z. omega (arith, z)) (λ z. omega (arith, z)) (drop at s) k e (sym number ∙ four));
+            answered = λ j x. absurd (done-is-not-refused (sym e ∙ x .stands .reaches));
             no-field = λ other. m .offset ∙ ap (λ (y : Outcome ℕ). offsetBy y s at) e;
           }
       go (done n) e =
@@ -227,6 +236,7 @@ module _ {b : Book} (p : Reached b) {s : List ℕ} {at : ℕ} {r : Moved} (m : M
           let four = four-is-read (view b) d in
           record {
             bad-field = λ z. record { bytes = take n (drop at s); stands = record { size = n; reaches = e; bytes = refl }; first = rw offset (read .bad-field (four .0 (sym number ∙ z))) };
+            answered = λ j x. let found = read .answered j (rw (bytes-there n e x) (x .first)) in (number ∙ four .1 (found .0), offset ∙ found .1);
             no-field = λ other. offset ∙ read .no-field (λ z. other (number ∙ four .1 z));
           }
 
@@ -348,8 +358,8 @@ module _ {b : Book} (p : Reached b) where
 
   buffers : Buffers
   buffers = record {
-    reading = λ s n e. read-refused (λ (k : ℕ). Unit {0}) tt tt tt s tt n e .nothing;
-    writing = λ m plain out n e. (ap (λ (w : Write). w .out) (write-refused m plain out (λ (k : ℕ). Unit {0}) tt tt n e .untouched), ap countOf e);
+    reading = read-zeros;
+    writing = λ m plain out n e. (write-untouched m plain out n e, ap countOf e);
     beyond = write-fills;
   }
 
@@ -358,7 +368,7 @@ module _ {b : Book} (p : Reached b) where
     reading = read-locates;
     testing = field-locates;
     writing = write-locates;
-    printing = λ m plain sequence second out. line-locates (told b m) m plain sequence second out;
+    printing = λ m plain sequence second out. line-locates m (told b m) plain sequence second out;
     applying = λ m. apply-locates p m;
   }
 

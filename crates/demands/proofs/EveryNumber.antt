@@ -1,4 +1,4 @@
--- Every number that demand 1 lists is given: by computation, of some bytes and of views that the calls make.
+-- Every number that demand 1 lists of the message layer, of the book and of the page is given: by computation, of some bytes and of views that the calls make.
 use mathlib.Core.List.{List, [], _∷_}
 use mathlib.Core.Path.{_≡_, refl}
 use Prim.Native.Nat.{ℕ, zero, suc, _+_}
@@ -8,12 +8,12 @@ use Rattle.wire.specs.Bytes.{value, littleEndian, plainRoom}
 use Rattle.wire.specs.Table.{shapeOf}
 use Rattle.wire.specs.Fields.{firstBad, faultOf}
 use Rattle.wire.specs.Reading.{reachBy, reachOf, readBy, readBody, readSized, readShape, readTyped, readReached, readOf}
-use Rattle.wire.specs.Writing.{writeSized, writeBy, writeShape, writeOf}
+use Rattle.wire.specs.Writing.{Write, writeSized, writeBy, writeShape, writeOf}
 use Rattle.wire.specs.Message.{faultIn, badFieldOf}
 use Rattle.wire.specs.declared.Message.{Message}
 use Rattle.feed.specs.Reader.{ruled}
 use Rattle.places.specs.Places.{firstWhere, tabulate, insert, remove, look}
-use Rattle.symbols.specs.State.{placeOf, foundIn, vacancyOf}
+use Rattle.symbols.specs.State.{placeOf, foundIn, vacancyOf, paddedName}
 use Rattle.symbols.specs.Registering as registering
 use Rattle.symbols.specs.Registering.{nameBad}
 use Rattle.orders.specs.Rules.{applyTo}
@@ -22,7 +22,12 @@ use Rattle.book.specs.State.{View, newView}
 use Rattle.book.specs.Registering.{registerOf, toldIn}
 use Rattle.book.specs.Quote.{quoteOf, volumeOf}
 use Rattle.book.specs.Step.{enacted, meeting, actOn, meant, stepOf}
-use Rattle.book.specs.Walk.{offsetBy, moveOf, stepsOf}
+use Rattle.book.specs.Walk.{offsetBy, moveOf, walkFor, walkOf, stepsOf}
+use Rattle.columns.specs.Text.{fixed, digitsBy, digits, priced, timed}
+use Rattle.columns.specs.Columns.{rendered}
+use Rattle.page.specs.Printing.{hasNoLine, laid, lineBy, lineOf}
+use Rattle.page.specs.Printout.{passedText}
+use Rattle.page.specs.Laying.{layFrom, layOf}
 use Rattle.demands.specs.Examples.{name, scale, viewABC}
 use Rattle.demands.specs.Messages.{index, buy, add, delete, clear}
 
@@ -117,3 +122,26 @@ adds = tabulate 64 (λ k. add (k + 1) (k + 1) buy 1234500 200)
 pub given-10 : Answered (stepsOf viewABC adds) (add 65 65 buy 1234500 200) 10
 unfolding value littleEndian shapeOf firstBad faultOf reachBy reachOf readBy readBody readSized readShape readTyped readReached readOf firstWhere tabulate insert remove look placeOf foundIn vacancyOf applyTo dealTo nameBad registering.registered ruled enacted meeting actOn meant stepOf moveOf stepsOf
 given-10 = refl
+
+-- ---- a line, with ABC registered or not
+abbrev bought : (side : ℕ) → Message
+bought side = Message.Add (record { nanos = 125; index = index; number = 1 }) 1001 1234500 200 side
+
+abbrev lined : View → Message → (second room : ℕ) → Write
+lined v m second room = lineOf (toldIn index v) m zeros 57 second (replicate room 0)
+
+pub record ByPage : Type 0 where
+  pub line-0 : lined viewABC (bought buy) 34200 60 .outcome ≡ done 60
+  pub line-3 : lined viewABC (deletion 125) 34200 60 .outcome ≡ refused 3
+  pub line-4 : lined viewABC (bought 0) 34200 60 .outcome ≡ refused 4
+  pub line-4-at : lined viewABC (bought 0) 34200 60 .offset ≡ 32
+  pub line-5 : lined newView (bought buy) 34200 60 .outcome ≡ refused 5
+  pub line-14 : lined viewABC (bought buy) 86400 60 .outcome ≡ refused 14
+  pub line-15 : lined viewABC (bought buy) 34200 59 .outcome ≡ refused 15
+  pub lay-1 : layOf 34200 640 viewABC one 0 0 .answer ≡ 1
+  pub lay-2 : layOf 34200 640 viewABC small 0 0 .answer ≡ 2
+  pub lay-15 : layOf 34200 639 viewABC one 0 0 .answer ≡ 15
+
+pub by-page : ByPage
+unfolding value littleEndian shapeOf firstBad faultOf faultIn reachBy reachOf readBy readBody readSized readShape readTyped readReached readOf firstWhere insert remove look placeOf foundIn vacancyOf applyTo dealTo nameBad registering.registered registering.toldOf ruled enacted meeting actOn meant stepOf toldIn paddedName tabulate rendered fixed digitsBy digits priced timed hasNoLine laid lineBy lineOf passedText layFrom layOf walkFor walkOf
+by-page = record { line-0 = refl; line-3 = refl; line-4 = refl; line-4-at = refl; line-5 = refl; line-14 = refl; line-15 = refl; lay-1 = refl; lay-2 = refl; lay-15 = refl }

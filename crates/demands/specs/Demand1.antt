@@ -9,7 +9,7 @@ use mathlib.Core.Path.{_≡_}
 use lib.ListN.{length, drop, replicate}
 use Rattle.wire.specs.Outcome.{done, refused, numberOf}
 use Rattle.wire.specs.Bytes.{plainRoom}
-use Rattle.wire.specs.Reading.{leastSize, msgSize, reachOf, noMessage, readOf}
+use Rattle.wire.specs.Reading.{leastSize, msgSize, reachOf, readOf}
 use Rattle.wire.specs.Writing.{Write, countOf, Fills, writeOf}
 use Rattle.wire.specs.Message.{badFieldOf}
 use Rattle.wire.specs.FirstBad.{FirstBadIn, FirstBadOf, Locates}
@@ -44,7 +44,7 @@ use Rattle.book.specs.declared.Done.{Done}
 use Rattle.book.specs.declared.walk.Moved.{Moved}
 use Rattle.book.specs.declared.walk.Ran.{Ran}
 use Rattle.columns.specs.Held.{room}
-use Rattle.page.specs.Printing.{laid, lineOf, told}
+use Rattle.page.specs.Printing.{laid, lineOf, FirstBadOn, told}
 use Rattle.page.specs.Printout.{closing}
 use Rattle.page.specs.Laying.{Lays}
 use Rattle.page.specs.declared.laying.Laid.{Laid}
@@ -87,7 +87,8 @@ pub record PageNumbers (b : Book) : Type 0 where
   pub laying : {stream before after : List ℕ} {at place second : ℕ} {r : Laid} → Lays b stream at place second before r after → OneOf (1 ∷ 2 ∷ 14 ∷ 15 ∷ []) (r .answer)
   pub ending : (index answer : ℕ) (out : List ℕ) → OneOf (0 ∷ 15 ∷ []) (numberOf (laid (closing (view b) index answer) out .outcome))
 
--- ---- where a bad field stands: with 4 comes the offset of the first one in its message, with every other number 0. A run hands back no 4, nor does a laying
+-- ---- where a bad field stands: where there is one, 4 is answered with the offset of the first one in its message; with every other number the offset is 0. A run hands
+-- back no 4, nor does a laying
 -- a message stands at the position, and its first bad field at this offset in it
 pub record BadThere (s : List ℕ) (at offset : ℕ) : Type 0 where
   pub bytes : List ℕ
@@ -99,7 +100,7 @@ pub record Offsets (b : Book) : Type 0 where
   pub testing : (m : Message) → Locates (FirstBadOf m) (numberOf (badFieldOf m .outcome)) (badFieldOf m .offset)
   pub writing : (m : Message) (plain out : List ℕ) → Locates (FirstBadOf m) (numberOf (writeOf m plain out .outcome)) (writeOf m plain out .offset)
   pub printing : (m : Message) (plain : List ℕ) (sequence second : ℕ) (out : List ℕ)
-      → Locates (FirstBadOf m) (numberOf (lineOf (told b m) m plain sequence second out .outcome)) (lineOf (told b m) m plain sequence second out .offset)
+      → Locates (FirstBadOn m) (numberOf (lineOf (told b m) m plain sequence second out .outcome)) (lineOf (told b m) m plain sequence second out .offset)
   pub applying : {s : List ℕ} {at : ℕ} {r : Moved} → Moves b s at r → Locates (BadThere s at) (r .answer) (r .offset)
 
 -- ---- what a refusal leaves
@@ -111,7 +112,7 @@ pub record Printing (w : Write) (out : List ℕ) : Type 0 where
 -- the output: a refused read and a refused write
 pub record Buffers : Type 0 where
   -- no message is handed back, and zeros for its byte array
-  pub reading : (s : List ℕ) (number : ℕ) → readOf s .outcome ≡ refused number → readOf s ≡ noMessage number (readOf s .offset)
+  pub reading : (s : List ℕ) (number : ℕ) → readOf s .outcome ≡ refused number → readOf s .plain ≡ replicate plainRoom 0
   -- the buffer is as it was, and the count 0
   pub writing : (m : Message) (plain out : List ℕ) (number : ℕ) → writeOf m plain out .outcome ≡ refused number → (writeOf m plain out .out ≡ out) × (countOf (writeOf m plain out .outcome) ≡ 0)
   -- refused or done, no byte beyond the count changes

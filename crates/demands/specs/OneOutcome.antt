@@ -23,7 +23,7 @@ pub data Together : Book → Book → Type 0 where
 pub record OneOutcome : Type 0 where
   -- `new` hands back one state
   pub new : {a b : Book} → Fresh a → Fresh b → a ≡ b
-  -- `register`, `apply` and `run`, called twice in one state: one answer, one position, one next view; `symbol`, `quote` and `day_volume`: one result
+  -- `register`, `apply` and `run`, called twice in one state: one answer, one offset, one position, one next view; `symbol`, `quote` and `day_volume`: one result
   pub each-call : {b : Book} → Reached b → Alike b b
   -- and what the same calls hand back answers every later call alike
   pub ever-after : {a b : Book} → Together a b → Alike a b

@@ -1,26 +1,27 @@
 -- The numbers that a call can answer with are those of the clauses of its rule, and each clause that refuses leaves the buffer.
-use mathlib.Core.Bool.{Bool, true, false}
+use mathlib.Core.Bool.{Bool, true, false, true≢false}
 use mathlib.Core.List.{List, [], _∷_}
 use mathlib.Core.Logic.{_⊎_, ⊎-elim}
-use mathlib.Core.Path.{_≡_, refl, sym, ap, _∙_}
+use mathlib.Core.Path.{_≡_, refl, sym, ap, _∙_, subst}
 use Prim.Native.Nat.{ℕ, zero, suc, _≤_, _<_}
 use native.Mathlib.Omega.{arith}
 use borrow.Author.Tests.{ltb-true, ltb-false}
 use lib.Dec.{ltb}
 use lib.ListN.{length}
 use Rattle.wire.specs.Outcome.{refused, numberOf}
-use Rattle.wire.specs.Message.{faultIn}
+use Rattle.wire.specs.Fields.{faultAs}
+use Rattle.wire.specs.Message.{typeOf, faultIn}
 use Rattle.wire.specs.FirstBad.{FirstBadOf, Locates}
 use Rattle.wire.specs.declared.Fault.{Fault}
 use Rattle.wire.specs.declared.Message.{Message}
 use Rattle.wire.proofs.Cases.{done-is-not-refused}
-use Rattle.wire.proofs.Offsets.{nowhere, there, fault-is-first}
+use Rattle.wire.proofs.Offsets.{locates-none, field-locates}
 use Rattle.places.specs.Places.{among}
 use Rattle.symbols.specs.declared.registering.Listing.{Listing}
 use Rattle.book.specs.State.{view, Wf}
 use Rattle.book.specs.declared.Book.{Book}
 use Rattle.columns.specs.Held.{room}
-use Rattle.page.specs.Printing.{lastSecond, laidIf, laid, lineBy, lineOf}
+use Rattle.page.specs.Printing.{hasNoLine, lastSecond, FirstBadOn, laidIf, laid, lineBy, lineOf}
 use Rattle.page.specs.Laying.{Lays}
 use Rattle.page.specs.declared.laying.Laid.{Laid}
 use Rattle.page.proofs.Passing.{lay-moves, laying-ends}
@@ -49,23 +50,35 @@ unfolding lineOf
 line-answers s m plain sequence second out = by-checks _ _ _ _ _ _ out refl
 
 -- ---- the offset: with a bad field where the first one stands, with every other answer 0
-laid-nowhere : (m : Message) (short : Bool) (line out : List ℕ) → Locates (FirstBadOf m) (numberOf (laidIf short line out .outcome)) (laidIf short line out .offset)
-laid-nowhere m true line out = nowhere (FirstBadOf m) 15 (λ z. omega (arith, z))
-laid-nowhere m false line out = nowhere (FirstBadOf m) 0 (λ z. omega (arith, z))
+module _ (m : Message) where
+  -- of a message that has a line the test of its fields says it all
+  with-line : hasNoLine (typeOf m) ≡ false → (number offset : ℕ) → Locates (FirstBadOf m) number offset → Locates (FirstBadOn m) number offset
+  with-line type number offset l = record { bad-field = λ four. record { has-line = type; first = l .bad-field four }; answered = λ n x. l .answered n (x .first); no-field = l .no-field }
 
-by-fault : (m : Message) (no-line : Bool) (bad : Fault) → faultIn m ≡ bad → (known late : Bool) (line out : List ℕ)
-    → Locates (FirstBadOf m) (numberOf (lineBy no-line bad known late line out .outcome)) (lineBy no-line bad known late line out .offset)
-unfolding lineBy laid
-by-fault m true bad e known late line out = nowhere (FirstBadOf m) 3 (λ z. omega (arith, z))
-by-fault m false (Fault.At n) e known late line out = there (FirstBadOf m) n (fault-is-first m n e)
-by-fault m false Fault.Nothing e false late line out = nowhere (FirstBadOf m) 5 (λ z. omega (arith, z))
-by-fault m false Fault.Nothing e true true line out = nowhere (FirstBadOf m) 14 (λ z. omega (arith, z))
-by-fault m false Fault.Nothing e true false line out = laid-nowhere m (ltb (length out) (length line)) line out
+  -- where none is bad
+  none-bad : faultIn m ≡ Fault.Nothing → (n : ℕ) → FirstBadOn m n → ⊥
+  none-bad e n x =
+      let four = field-locates m .answered n (x .first) .0 in
+      omega (arith, sym (ap (λ (y : Fault). numberOf (faultAs y .outcome)) e) ∙ four)
 
-pub line-locates : (s : Listing) (m : Message) (plain : List ℕ) (sequence second : ℕ) (out : List ℕ)
-    → Locates (FirstBadOf m) (numberOf (lineOf s m plain sequence second out .outcome)) (lineOf s m plain sequence second out .offset)
-unfolding lineOf
-line-locates s m plain sequence second out = by-fault m _ (faultIn m) refl _ _ _ out
+  laid-nowhere : faultIn m ≡ Fault.Nothing → (short : Bool) (line out : List ℕ) → Locates (FirstBadOn m) (numberOf (laidIf short line out .outcome)) (laidIf short line out .offset)
+  laid-nowhere e true line out = locates-none (FirstBadOn m) 15 (λ z. omega (arith, z)) (none-bad e)
+  laid-nowhere e false line out = locates-none (FirstBadOn m) 0 (λ z. omega (arith, z)) (none-bad e)
+
+  by-fault : (no-line : Bool) → hasNoLine (typeOf m) ≡ no-line → (bad : Fault) → faultIn m ≡ bad → (known late : Bool) (line out : List ℕ)
+      → Locates (FirstBadOn m) (numberOf (lineBy no-line bad known late line out .outcome)) (lineBy no-line bad known late line out .offset)
+  unfolding lineBy laid
+  by-fault true q bad e known late line out = locates-none (FirstBadOn m) 3 (λ z. omega (arith, z)) (λ n x. true≢false (sym q ∙ x .has-line))
+  by-fault false q (Fault.At k) e known late line out =
+      with-line q 4 k (subst (λ (y : Fault). Locates (FirstBadOf m) (numberOf (faultAs y .outcome)) (faultAs y .offset)) e (field-locates m))
+  by-fault false q Fault.Nothing e false late line out = locates-none (FirstBadOn m) 5 (λ z. omega (arith, z)) (none-bad e)
+  by-fault false q Fault.Nothing e true true line out = locates-none (FirstBadOn m) 14 (λ z. omega (arith, z)) (none-bad e)
+  by-fault false q Fault.Nothing e true false line out = laid-nowhere e (ltb (length out) (length line)) line out
+
+  pub line-locates : (s : Listing) (plain : List ℕ) (sequence second : ℕ) (out : List ℕ)
+      → Locates (FirstBadOn m) (numberOf (lineOf s m plain sequence second out .outcome)) (lineOf s m plain sequence second out .offset)
+  unfolding lineOf
+  line-locates s plain sequence second out = by-fault (hasNoLine (typeOf m)) refl (faultIn m) refl _ _ _ out
 
 -- ---- refused, the buffer is as it was
 laid-if-refused : (short : Bool) (line out : List ℕ) (k : ℕ) → laidIf short line out .outcome ≡ refused k → laidIf short line out .out ≡ out

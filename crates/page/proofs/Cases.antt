@@ -9,8 +9,8 @@ use lib.ListN.{length, take, drop}
 use lib.Seq.{drop-append-seam, paste}
 use lib.Dec.{ltb, eqb}
 use borrow.Author.Tests.{lt-ltb, le-ltb, eq-eqb, ne-eqb}
-use Rattle.wire.specs.Outcome.{done}
-use Rattle.wire.specs.Writing.{Write, refuse, countOf}
+use Rattle.wire.specs.Outcome.{done, only}
+use Rattle.wire.specs.Writing.{Write, leaving, refuse, refuseField, countOf}
 use Rattle.wire.specs.Message.{typeOf, faultIn}
 use Rattle.wire.specs.declared.Fault.{Fault}
 use Rattle.wire.specs.declared.Message.{Message}
@@ -21,19 +21,19 @@ use Rattle.page.specs.Printing.{hasNoLine, lastSecond, laidIf, laid, App
 
 -- ---- the room
 module _ (line out : List ℕ) where
-  pub laid-short : length out < length line → laid line out ≡ refuse 15 0 out
+  pub laid-short : length out < length line → laid line out ≡ refuse 15 out
   unfolding laid
   laid-short h = rw (lt-ltb _ _ h) refl
 
-  pub laid-fits : length line ≤ length out → laid line out ≡ record { outcome = done (length line); offset = 0; out = line ++ drop (length line) out }
+  pub laid-fits : length line ≤ length out → laid line out ≡ leaving (only (done (length line))) (line ++ drop (length line) out)
   unfolding laid
   laid-fits h = rw (le-ltb _ _ h) refl
 
 -- a line copied by its count from bytes that begin with it, to the start of a buffer
 pub laid-copied : (line bs out : List ℕ) (k : ℕ) → k ≡ length line → take (length line) bs ≡ line → k ≤ length out →
-    record { outcome = done k; offset = 0; out = paste out 0 bs k } ≡ laid line out
+    leaving (only (done k)) (paste out 0 bs k) ≡ laid line out
 laid-copied line bs out k e b h =
-    (λ i. record { outcome = done (e i); offset = 0; out = (ap (λ j. take j bs) e ∙ b) i ++ drop ((zero-add k ∙ e) i) out })
+    (λ i. leaving (only (done (e i))) ((ap (λ j. take j bs) e ∙ b) i ++ drop ((zero-add k ∙ e) i) out))
     ∙ sym (laid-fits line out (omega (arith, e, h)))
 
 -- or behind its first bytes
@@ -42,12 +42,12 @@ appended line bs out after at k e b c = record { count = ap (λ j. at + j) e; ou
 
 -- ---- the checks, in their order
 module _ (s : Listing) (m : Message) (plain : List ℕ) (sequence second : ℕ) (out : List ℕ) where
-  pub line-no-type : hasNoLine (typeOf m) ≡ true → lineOf s m plain sequence second out ≡ refuse 3 0 out
+  pub line-no-type : hasNoLine (typeOf m) ≡ true → lineOf s m plain sequence second out ≡ refuse 3 out
   unfolding lineOf lineBy
   line-no-type h = rw h refl
 
   module _ (type : hasNoLine (typeOf m) ≡ false) where
-    pub line-bad-field : (n : ℕ) → faultIn m ≡ Fault.At n → lineOf s m plain sequence second out ≡ refuse 4 n out
+    pub line-bad-field : (n : ℕ) → faultIn m ≡ Fault.At n → lineOf s m plain sequence second out ≡ refuseField n out
     unfolding lineOf lineBy
     line-bad-field n h = rw (type, h) refl
 
@@ -57,12 +57,12 @@ module _ (s : Listing) (m : Message) (plain : List ℕ) (sequence second : ℕ) 
 
 -- without a bad field
 module _ (s : Listing) (second : ℕ) (line out : List ℕ) where
-  pub line-no-symbol : (s .answer ≡ 0 → ⊥) → lineBy false Fault.Nothing (eqb (s .answer) 0) (ltb lastSecond second) line out ≡ refuse 5 0 out
+  pub line-no-symbol : (s .answer ≡ 0 → ⊥) → lineBy false Fault.Nothing (eqb (s .answer) 0) (ltb lastSecond second) line out ≡ refuse 5 out
   unfolding lineBy
   line-no-symbol h = rw (ne-eqb _ _ h) refl
 
   module _ (known : s .answer ≡ 0) where
-    pub line-bad-second : lastSecond < second → lineBy false Fault.Nothing (eqb (s .answer) 0) (ltb lastSecond second) line out ≡ refuse 14 0 out
+    pub line-bad-second : lastSecond < second → lineBy false Fault.Nothing (eqb (s .answer) 0) (ltb lastSecond second) line out ≡ refuse 14 out
     unfolding lineBy
     line-bad-second h = rw (eq-eqb _ _ known, lt-ltb _ _ h) refl
 

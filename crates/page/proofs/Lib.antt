@@ -8,4 +8,5 @@ pub mod Printouts
 pub mod Sheets
 pub mod Passing
 pub mod DoneLines
+pub mod BadLines
 pub mod Answers

@@ -3,8 +3,8 @@ use mathlib.Core.Path.{_≡_, refl, ap, _∙_}
 use mathlib.Core.List.{List, _++_}
 use Prim.Native.Nat.{ℕ, _≤_}
 use lib.ListN.{length, drop}
-use Rattle.wire.specs.Outcome.{done}
-use Rattle.wire.specs.Writing.{refuse}
+use Rattle.wire.specs.Outcome.{done, only}
+use Rattle.wire.specs.Writing.{leaving, refuse}
 use Rattle.wire.specs.Message.{faultIn}
 use Rattle.wire.specs.Table.{shapeOf}
 use Rattle.wire.specs.Fields.{firstBad, faultOf}
@@ -20,7 +20,7 @@ unfolding rendered fixed digitsBy digits priced timed
 line-l = refl
 
 -- the line, with its line feed, in any buffer that has room for it
-pub case-l : (out : List ℕ) → length lineL ≤ length out → lineOf abc add firm sequenceL secondL out ≡ record { outcome = done (length lineL); offset = 0; out = lineL ++ drop (length lineL) out }
+pub case-l : (out : List ℕ) → length lineL ≤ length out → lineOf abc add firm sequenceL secondL out ≡ leaving (only (done (length lineL))) (lineL ++ drop (length lineL) out)
 unfolding lineOf lineBy hasNoLine faultIn shapeOf faultOf firstBad
 case-l out h = ap (λ x. laid x out) line-l ∙ laid-fits lineL out h
 
@@ -36,6 +36,6 @@ pub last-second-prints : timed 86399 999999999 ≡ ascii "23:59:59.999999999"
 unfolding fixed timed
 last-second-prints = refl
 
-pub second-86400-is-refused : (out : List ℕ) → lineOf abc add firm sequenceL 86400 out ≡ refuse 14 0 out
+pub second-86400-is-refused : (out : List ℕ) → lineOf abc add firm sequenceL 86400 out ≡ refuse 14 out
 unfolding lineOf lineBy hasNoLine faultIn shapeOf faultOf firstBad
 second-86400-is-refused out = refl

@@ -6,8 +6,9 @@ use mathlib.Core.Bool.{Bool, true, false, cond, not}
 use lib.ListN.{length, take, drop}
 use lib.Dec.{ltb, eqb}
 use Rattle.wire.specs.Outcome.{Answered, done, refused, only, badAt}
-use Rattle.wire.specs.Writing.{Write, leaving, refuse}
+use Rattle.wire.specs.Writing.{Write, leaving, refuse, refuseField}
 use Rattle.wire.specs.Message.{typeOf, indexIn, faultIn}
+use Rattle.wire.specs.FirstBad.{FirstBadOf}
 use Rattle.wire.specs.declared.Fault.{Fault}
 use Rattle.wire.specs.declared.Message.{Message}
 use Rattle.book.specs.State.{view}
@@ -40,8 +41,8 @@ lastSecond = 86399
 
 -- is the buffer shorter than the line?
 abbrev pub laidIf : Bool → List ℕ → List ℕ → Write
-laidIf true line out = refuse 15 0 out
-laidIf false line out = record { outcome = done (length line); offset = 0; out = line ++ drop (length line) out }
+laidIf true line out = refuse 15 out
+laidIf false line out = leaving (only (done (length line))) (line ++ drop (length line) out)
 
 unfoldable pub laid : List ℕ → List ℕ → Write
 laid line out = laidIf (ltb (length out) (length line)) line out
@@ -53,16 +54,21 @@ pub record Appends (line : List ℕ) (at : ℕ) (before : List ℕ) (r : ℕ) (a
 
 -- one clause for each check: has the type no line, which field is bad, is the symbol known, the second past the day?
 unfoldable pub lineBy : Bool → Fault → Bool → Bool → List ℕ → List ℕ → Write
-lineBy true bad known late line out = refuse 3 0 out
-lineBy false (Fault.At n) known late line out = refuse 4 n out
-lineBy false Fault.Nothing false late line out = refuse 5 0 out
-lineBy false Fault.Nothing true true line out = refuse 14 0 out
+lineBy true bad known late line out = refuse 3 out
+lineBy false (Fault.At n) known late line out = refuseField n out
+lineBy false Fault.Nothing false late line out = refuse 5 out
+lineBy false Fault.Nothing true true line out = refuse 14 out
 lineBy false Fault.Nothing true false line out = laid line out
 
 -- the line of a message at the start of out, by what is told of its symbol
 unfoldable pub lineOf : Listing → Message → List ℕ → ℕ → ℕ → List ℕ → Write
 lineOf s m plain sequence second out =
     lineBy (hasNoLine (typeOf m)) (faultIn m) (eqb (s .answer) 0) (ltb lastSecond second) (rendered (columnsOf s m plain sequence second)) out
+
+-- a message that has a line, and its first bad field at n
+pub record FirstBadOn (m : Message) (n : ℕ) : Type 0 where
+  pub has-line : hasNoLine (typeOf m) ≡ false
+  pub first : FirstBadOf m n
 
 -- what a book tells of a message's symbol
 abbrev pub told : Book → Message → Listing

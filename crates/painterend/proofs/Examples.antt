@@ -1,20 +1,33 @@
--- The printout of an empty file, by computation.
-use mathlib.Core.List.{[], _∷_}
+-- The printout of an empty file and of one bad message, by computation.
+use mathlib.Core.List.{List, [], _∷_}
 use mathlib.Core.Path.{_≡_, refl}
+use Prim.Native.Nat.{ℕ}
 use Rattle.places.specs.Places.{firstWhere, tabulate, fold, sumBy}
-use Rattle.wire.specs.Reading.{reachBy, reachOf}
+use Rattle.wire.specs.Bytes.{value}
+use Rattle.wire.specs.Table.{shapeOf}
+use Rattle.wire.specs.Fields.{firstBad, faultOf}
+use Rattle.wire.specs.Reading.{reachBy, reachOf, readBy, readBody, readSized, readShape, readTyped, readReached, readOf}
 use Rattle.symbols.specs.State.{placeOf, foundIn, vacancyOf, paddedName}
 use Rattle.symbols.specs.Registering.{nameBad, registered, toldOf}
 use Rattle.orders.specs.Levels.{levelOf}
 use Rattle.book.specs.Registering.{toldIn}
 use Rattle.book.specs.Quote.{quoteOf}
+use Rattle.book.specs.Step.{stepOf}
 use Rattle.book.specs.Walk.{walkFor, walkOf, stepsOf}
 use Rattle.columns.specs.Text.{digitsBy, digits}
 use Rattle.columns.specs.Columns.{rendered}
-use Rattle.page.specs.Printout.{textsOf, endText, quoteText, closing, printedOf}
+use Rattle.page.specs.Marked.{ascii}
+use Rattle.page.specs.Printout.{passedText, textsOf, endText, quoteText, closing, printedOf}
 use Rattle.painterend.specs.Program.{startView, printout}
 
--- `E,1` and `Q,,,,`
-pub empty-file : printout [] ≡ 69 ∷ 44 ∷ 49 ∷ 10 ∷ 81 ∷ 44 ∷ 44 ∷ 44 ∷ 44 ∷ 10 ∷ []
+pub empty-file : printout [] ≡ ascii "E,1\nQ,,,,\n"
 unfolding printout printedOf textsOf closing endText quoteText rendered digitsBy digits walkFor walkOf stepsOf reachBy reachOf startView registered nameBad placeOf foundIn vacancyOf paddedName tabulate firstWhere toldIn toldOf quoteOf levelOf fold sumBy
 empty-file = refl
+
+-- an add of 200 shares whose side, at 32, is neither letter
+abbrev badSide : List ℕ
+badSide = 39 ∷ 0 ∷ 100 ∷ 0 ∷ 125 ∷ 0 ∷ 0 ∷ 0 ∷ 7 ∷ 0 ∷ 0 ∷ 0 ∷ 1 ∷ 0 ∷ 0 ∷ 0 ∷ 9 ∷ 0 ∷ 0 ∷ 0 ∷ 0 ∷ 0 ∷ 0 ∷ 0 ∷ 5 ∷ 0 ∷ 0 ∷ 0 ∷ 200 ∷ 0 ∷ 0 ∷ 0 ∷ 0 ∷ 70 ∷ 73 ∷ 82 ∷ 77 ∷ 49 ∷ 0 ∷ []
+
+pub bad-side-file : printout badSide ≡ ascii "R,4,1,32\nE,1\nQ,,,,\n"
+unfolding printout printedOf passedText textsOf closing endText quoteText rendered digitsBy digits value shapeOf firstBad faultOf reachBy reachOf readBy readBody readSized readShape readTyped readReached readOf stepOf walkFor walkOf stepsOf startView registered nameBad placeOf foundIn vacancyOf paddedName tabulate firstWhere toldIn toldOf quoteOf levelOf fold sumBy
+bad-side-file = refl

@@ -12,15 +12,13 @@ use Rattle.wire.specs.declared.table.Layout.{Layout}
 use Rattle.wire.specs.declared.table.Shape.{Shape}
 use Rattle.wire.specs.declared.Fault.{Fault}
 use Rattle.wire.specs.declared.Message.{Message}
-use Rattle.wire.specs.Outcome.{Outcome, done, refused}
+use Rattle.wire.specs.Outcome.{Outcome, done, refused, only}
 use Rattle.wire.specs.Bytes.{value}
 use Rattle.wire.specs.Table.{shapeOf}
 use Rattle.wire.specs.Fields.{fieldsAt, faultOf}
 use Rattle.wire.specs.Message.{fieldsOf, typeOf}
-use Rattle.wire.specs.Reading as reading
-use Rattle.wire.specs.Reading.{leastSize, msgSize, msgType, reachBy, reachOf, readBy, readBody, readSized, readShape, readTyped, readReached, readOf}
-use Rattle.wire.specs.Writing as writing
-use Rattle.wire.specs.Writing.{imageOf, writeSized, writeBy, writeShape, writeOf}
+use Rattle.wire.specs.Reading.{leastSize, msgSize, msgType, reachBy, reachOf, noMessage, badMessage, goodRead, readBy, readBody, readSized, readShape, readTyped, readReached, readOf}
+use Rattle.wire.specs.Writing.{leaving, refuse, refuseField, imageOf, writeSized, writeBy, writeShape, writeOf}
 
 -- what is done is not refused
 pub done-is-not-refused : {A : Type 0} {a : A} {n : ℕ} → refused n ≡ done a → ⊥
@@ -77,7 +75,7 @@ reach-more s t n e =
 
 -- ---- reading
 module _ (s : List ℕ) where
-  pub read-unreached : (n : ℕ) → reachOf s ≡ refused n → readOf s ≡ reading.noMessage n 0
+  pub read-unreached : (n : ℕ) → reachOf s ≡ refused n → readOf s ≡ noMessage n
   unfolding readOf readReached
   read-unreached n e = ap (λ (x : Outcome ℕ). readReached x s) e
 
@@ -85,12 +83,12 @@ module _ (s : List ℕ) where
   unfolding readOf readReached
   read-reached size e = ap (λ (x : Outcome ℕ). readReached x s) e
 
-  pub read-unknown : (size : ℕ) → shapeOf (msgType s) ≡ Shape.Unknown → readTyped s size ≡ reading.noMessage 3 0
+  pub read-unknown : (size : ℕ) → shapeOf (msgType s) ≡ Shape.Unknown → readTyped s size ≡ noMessage 3
   unfolding readTyped readShape
   read-unknown size e = ap (λ (x : Shape). readShape x s size) e
 
   module _ (size : ℕ) (l : Layout) (known : shapeOf (msgType s) ≡ Shape.Known l) where
-    pub read-other-size : (size ≡ l .size → ⊥) → readTyped s size ≡ reading.noMessage 2 0
+    pub read-other-size : (size ≡ l .size → ⊥) → readTyped s size ≡ noMessage 2
     unfolding readTyped readShape readSized
     read-other-size h = ap (λ (x : Shape). readShape x s size) known ∙ rw (ne-eqb _ _ h)
 
@@ -98,17 +96,17 @@ module _ (s : List ℕ) where
     unfolding readTyped readShape readSized
     read-size h = ap (λ (x : Shape). readShape x s size) known ∙ rw (eq-eqb _ _ h)
 
-  pub read-bad-field : (l : Layout) (n : ℕ) → faultOf l (fieldsAt s l) ≡ Fault.At n → readBody s l ≡ reading.noMessage 4 n
+  pub read-bad-field : (l : Layout) (n : ℕ) → faultOf l (fieldsAt s l) ≡ Fault.At n → readBody s l ≡ badMessage n
   unfolding readBody readBy
   read-bad-field l n e = ap (λ (f : Fault). readBy f s l) e
 
-  pub read-good : (l : Layout) → faultOf l (fieldsAt s l) ≡ Fault.Nothing → readBody s l ≡ reading.goodRead s l (fieldsAt s l)
+  pub read-good : (l : Layout) → faultOf l (fieldsAt s l) ≡ Fault.Nothing → readBody s l ≡ goodRead s l (fieldsAt s l)
   unfolding readBody readBy
   read-good l e = ap (λ (f : Fault). readBy f s l) e
 
 -- ---- writing
 module _ (m : Message) (plain out : List ℕ) where
-  pub write-unknown : shapeOf (typeOf m) ≡ Shape.Unknown → writeOf m plain out ≡ writing.refuse 3 0 out
+  pub write-unknown : shapeOf (typeOf m) ≡ Shape.Unknown → writeOf m plain out ≡ refuse 3 out
   unfolding writeOf writeShape
   write-unknown h = ap (λ (x : Shape). writeShape x m plain out) h
 
@@ -117,7 +115,7 @@ module _ (m : Message) (plain out : List ℕ) where
     unfolding writeOf writeShape
     write-known = ap (λ (x : Shape). writeShape x m plain out) known
 
-    pub write-bad-field : (n : ℕ) → faultOf l (fieldsOf m) ≡ Fault.At n → writeOf m plain out ≡ writing.refuse 4 n out
+    pub write-bad-field : (n : ℕ) → faultOf l (fieldsOf m) ≡ Fault.At n → writeOf m plain out ≡ refuseField n out
     unfolding writeBy
     write-bad-field n k = write-known ∙ ap (λ (x : Fault). writeBy x l m plain out) k
 
@@ -127,10 +125,10 @@ module _ (m : Message) (plain out : List ℕ) where
 
 -- the bytes of a message, where there is room for them and where there is not
 module _ (size : ℕ) (image out : List ℕ) where
-  pub write-no-room : length out < size → writeSized (ltb (length out) size) size image out ≡ writing.refuse 15 0 out
+  pub write-no-room : length out < size → writeSized (ltb (length out) size) size image out ≡ refuse 15 out
   unfolding writeSized
   write-no-room g = rw (lt-ltb _ _ g)
 
-  pub write-room : size ≤ length out → writeSized (ltb (length out) size) size image out ≡ record { outcome = done size; offset = 0; out = image ++ drop size out }
+  pub write-room : size ≤ length out → writeSized (ltb (length out) size) size image out ≡ leaving (only (done size)) (image ++ drop size out)
   unfolding writeSized
   write-room g = rw (le-ltb _ _ g)

@@ -65,6 +65,15 @@ found n a (c ∷ cs) r e = go (c .bad) refl (found n (c .at) cs (r .1)) e
         (inl (here, q), ((λ below. absurd (omega (arith, here, below))), none-before n (c .at) cs (omega (arith, here)) (r .1)))
     go false q ih p = (inr (ih p .0), ((λ below. q), ih p .1))
 
+none-found : (n : ℕ) (cs : List Check) → firstBad cs ≡ Fault.Nothing → BadAt n cs → ⊥
+unfolding firstBad
+none-found n [] e b = b
+none-found n (c ∷ cs) e b = go (c .bad) refl (none-found n cs) e b
+  where
+    go : (x : Bool) → c .bad ≡ x → (firstBad cs ≡ Fault.Nothing → BadAt n cs → ⊥) → cond x (Fault.At (c .at)) (firstBad cs) ≡ Fault.Nothing → BadAt n (c ∷ cs) → ⊥
+    go true q ih p b = let z : _≡_ {A = ℕ} 0 1 = cc in omega arith
+    go false q ih p b = ⊎-elim (λ x. false≢true (sym q ∙ x .1)) (ih p) b
+
 -- what holds of every bad check holds of the offset
 abbrev Bads : (ℕ → Type 0) → List Check → Type 0
 Bads P [] = Unit {0}
@@ -145,6 +154,11 @@ module _ (l : Layout) (f : Fields) (s : Sane l) where
 pub one-first : {l : Layout} {f : Fields} {n k : ℕ} → FirstBad l f n → FirstBad l f k → n ≡ k
 one-first {l = l} {f = f} {n = n} {k = k} x y =
     omega (arith, not-before n k (checksOf l f) (x .bad) (y .before), not-before k n (checksOf l f) (y .bad) (x .before))
+
+-- and none where no check is bad
+pub no-first : {l : Layout} {f : Fields} {n : ℕ} → faultOf l f ≡ Fault.Nothing → FirstBad l f n → ⊥
+unfolding faultOf
+no-first {l = l} {f = f} {n = n} e x = none-found n (checksOf l f) e (x .bad)
 
 -- ---- of bytes, and of a typed message
 pub bytes-first : (s : List ℕ) (l : Layout) → shapeOf (msgType s) ≡ Shape.Known l → (n : ℕ) → faultOf l (fieldsAt s l) ≡ Fault.At n → FirstBad l (fieldsAt s l) n

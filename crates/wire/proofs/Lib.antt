@@ -3,6 +3,7 @@ pub mod ByteArrays
 pub mod Layouts
 pub mod Laying
 pub mod Cases
+pub mod Ways
 pub mod Rows
 pub mod Images
 pub mod RoundTrip

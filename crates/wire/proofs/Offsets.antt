@@ -1,98 +1,97 @@
--- Down the clauses of reading, of testing and of writing: with a 4 comes the offset of the first bad field, with every other answer 0.
-use mathlib.Core.Bool.{Bool, true, false}
+-- By the way that a read, a test or a write went: with a bad field 4 is answered, with the offset of the first one, and with every other answer the offset is 0.
 use mathlib.Core.List.{List}
 use mathlib.Core.Logic.{_≢_}
-use mathlib.Core.Path.{_≡_, refl}
+use mathlib.Core.Path.{_≡_, refl, sym, ap, _∙_, subst}
 use Prim.Native.Nat.{ℕ}
 use native.Mathlib.Omega.{arith}
-use lib.Dec.{eqb, ltb}
-use lib.ListN.{length}
-use borrow.Author.Tests.{eqb-true}
-use Rattle.wire.specs.Outcome.{Outcome, done, refused, numberOf}
+use Rattle.wire.specs.Outcome.{Outcome, done, numberOf}
 use Rattle.wire.specs.Table.{shapeOf}
 use Rattle.wire.specs.Fields.{fieldsAt, faultOf, faultAs}
 use Rattle.wire.specs.Message.{fieldsOf, typeOf, faultUnder, faultIn, badFieldOf}
-use Rattle.wire.specs.Reading.{msgSize, msgType, reachOf, readBy, readBody, readSized, readShape, readTyped, readReached, readOf}
-use Rattle.wire.specs.Writing.{imageOf, writeSized, writeBy, writeShape, writeOf}
-use Rattle.wire.specs.FirstBad.{FirstBadIn, FirstBadOf, Locates}
+use Rattle.wire.specs.Reading.{msgType, reachOf, Read, readOf}
+use Rattle.wire.specs.Writing.{Write, writeOf}
+use Rattle.wire.specs.FirstBad.{FirstBad, FirstBadIn, FirstBadOf, Locates}
 use Rattle.wire.specs.declared.table.Layout.{Layout}
 use Rattle.wire.specs.declared.table.Shape.{Shape}
 use Rattle.wire.specs.declared.Fault.{Fault}
 use Rattle.wire.specs.declared.Message.{Message}
-use Rattle.wire.proofs.Cases.{reached}
-use Rattle.wire.proofs.Checks.{bytes-first, message-first}
+use Rattle.wire.proofs.Cases.{done-is-not-refused}
+use Rattle.wire.proofs.Checks.{one-first, no-first, bytes-first, message-first}
 use Rattle.wire.proofs.Refusing.{reach-refused}
+use Rattle.wire.proofs.Ways.{HowRead, unreached, unknown-type, other-size, bad-field, good-fields, how-read, HowWritten, no-room, all-written, how-written}
 
 -- ---- beside an answer
-pub nowhere : (P : ℕ → Type 0) (number : ℕ) → number ≢ 4 → Locates P number 0
-nowhere P number other = record { bad-field = λ four. absurd (other four); no-field = λ x. refl }
+module _ (First : ℕ → Type 0) where
+  pub locates-none : (number : ℕ) → number ≢ 4 → ((n : ℕ) → First n → ⊥) → Locates First number 0
+  locates-none number other none = record { bad-field = λ four. absurd (other four); answered = λ n f. absurd (none n f); no-field = λ x. refl }
 
-pub there : (P : ℕ → Type 0) (n : ℕ) → P n → Locates P 4 n
-there P n p = record { bad-field = λ four. p; no-field = λ other. absurd (other refl) }
+  pub locates-at : (n : ℕ) → First n → ((k : ℕ) → First k → n ≡ k) → Locates First 4 n
+  locates-at n f one = record { bad-field = λ four. f; answered = λ k g. (refl, one k g); no-field = λ other. absurd (other refl) }
 
--- reading, down the clauses
+-- a type has one layout
+same-layout : {x : Shape} {l k : Layout} → x ≡ Shape.Known l → x ≡ Shape.Known k → l ≡ k
+same-layout p q = let e = sym p ∙ q in cc
+
+no-layout : {x : Shape} {l : Layout} → x ≡ Shape.Unknown → x ≡ Shape.Known l → ⊥
+no-layout p q = let e = sym p ∙ q in let z : _≡_ {A = ℕ} 0 1 = cc in omega arith
+
+same-size : {n k : ℕ} → _≡_ {A = Outcome ℕ} (done n) (done k) → n ≡ k
+same-size e = cc
+
+-- ---- reading
 module _ (s : List ℕ) where
-  read-fault : (l : Layout) → shapeOf (msgType s) ≡ Shape.Known l → msgSize s ≡ l .size → (x : Fault) → faultOf l (fieldsAt s l) ≡ x →
-      Locates (FirstBadIn s) (numberOf (readBy x s l .outcome)) (readBy x s l .offset)
-  unfolding readBy
-  read-fault l known size (Fault.At n) e = there (FirstBadIn s) n (record { layout = l; known = known; size = size; first = bytes-first s l known n e })
-  read-fault l known size Fault.Nothing e = nowhere (FirstBadIn s) 0 (λ z. omega (arith, z))
+  under : (l : Layout) → shapeOf (msgType s) ≡ Shape.Known l → (n : ℕ) → FirstBadIn s n → FirstBad l (fieldsAt s l) n
+  under l known n x = subst (λ (y : Layout). FirstBad y (fieldsAt s y) n) (same-layout (x .known) known) (x .first)
 
-  read-sized : (l : Layout) → shapeOf (msgType s) ≡ Shape.Known l → (right : Bool) → eqb (msgSize s) (l .size) ≡ right →
-      Locates (FirstBadIn s) (numberOf (readSized right s l .outcome)) (readSized right s l .offset)
-  unfolding readSized readBody
-  read-sized l known false e = nowhere (FirstBadIn s) 2 (λ z. omega (arith, z))
-  read-sized l known true e = read-fault l known (eqb-true (msgSize s) (l .size) e) (faultOf l (fieldsAt s l)) refl
+  sized : (size : ℕ) (l : Layout) → reachOf s ≡ done size → shapeOf (msgType s) ≡ Shape.Known l → (n : ℕ) → FirstBadIn s n → size ≡ l .size
+  sized size l there known n x =
+      let same : size ≡ x .layout .size = same-size (sym there ∙ x .there) in
+      same ∙ ap (λ (y : Layout). y .size) (same-layout (x .known) known)
 
-  read-shape : (x : Shape) → shapeOf (msgType s) ≡ x → Locates (FirstBadIn s) (numberOf (readShape x s (msgSize s) .outcome)) (readShape x s (msgSize s) .offset)
-  unfolding readShape
-  read-shape Shape.Unknown e = nowhere (FirstBadIn s) 3 (λ z. omega (arith, z))
-  read-shape (Shape.Known l) e = read-sized l e (eqb (msgSize s) (l .size)) refl
-
-  read-reach : (x : Outcome ℕ) → reachOf s ≡ x → Locates (FirstBadIn s) (numberOf (readReached x s .outcome)) (readReached x s .offset)
-  unfolding readReached readTyped
-  read-reach (refused n) e = nowhere (FirstBadIn s) n (reach-refused (λ (k : ℕ). k ≢ 4) (λ z. omega (arith, z)) (λ z. omega (arith, z)) s n e)
-  read-reach (done n) e = rw (← (reached s n e .size)) (read-shape (shapeOf (msgType s)) refl)
-
-  -- what was read says where its first bad field stands, and nothing where there is none
   pub read-locates : Locates (FirstBadIn s) (numberOf (readOf s .outcome)) (readOf s .offset)
-  unfolding readOf
-  read-locates = read-reach (reachOf s) refl
-
--- a typed message: of itself, and written
-module _ (m : Message) where
-  fault-first : (x : Shape) → shapeOf (typeOf m) ≡ x → (n : ℕ) → faultUnder x m ≡ Fault.At n → FirstBadOf m n
-  fault-first Shape.Unknown e n q = absurd (let z : _≡_ {A = ℕ} 0 1 = cc in omega arith)
-  fault-first (Shape.Known l) e n q = record { layout = l; known = e; first = message-first m l e n q }
-
-  pub fault-is-first : (n : ℕ) → faultIn m ≡ Fault.At n → FirstBadOf m n
-  unfolding faultIn
-  fault-is-first n e = fault-first (shapeOf (typeOf m)) refl n e
-
-  pub field-locates : Locates (FirstBadOf m) (numberOf (badFieldOf m .outcome)) (badFieldOf m .offset)
-  field-locates = go (faultIn m) refl
+  read-locates = go (readOf s) (how-read s)
     where
-      go : (x : Fault) → faultIn m ≡ x → Locates (FirstBadOf m) (numberOf (faultAs x .outcome)) (faultAs x .offset)
-      go Fault.Nothing e = nowhere (FirstBadOf m) 0 (λ z. omega (arith, z))
-      go (Fault.At n) e = there (FirstBadOf m) n (fault-is-first n e)
+      go : (r : Read) → HowRead s r → Locates (FirstBadIn s) (numberOf (r .outcome)) (r .offset)
+      go _ (unreached {n = n} e) = locates-none (FirstBadIn s) n (reach-refused (λ (k : ℕ). k ≢ 4) (λ z. omega (arith, z)) (λ z. omega (arith, z)) s n e) (λ k x. done-is-not-refused (sym e ∙ x .there))
+      go _ (unknown-type there e) = locates-none (FirstBadIn s) 3 (λ z. omega (arith, z)) (λ k x. no-layout e (x .known))
+      go _ (other-size {size = size} {l = l} there known e) = locates-none (FirstBadIn s) 2 (λ z. omega (arith, z)) (λ k x. e (sized size l there known k x))
+      go _ (bad-field {l = l} {n = n} there known e) =
+          let first = bytes-first s l known n e in
+          locates-at (FirstBadIn s) n (record { layout = l; known = known; there = there; first = first }) (λ k x. one-first first (under l known k x))
+      go _ (good-fields {l = l} there known e) = locates-none (FirstBadIn s) 0 (λ z. omega (arith, z)) (λ k x. no-first e (under l known k x))
 
-  module _ (plain out : List ℕ) where
-    write-room : (size : ℕ) (image : List ℕ) (short : Bool) → Locates (FirstBadOf m) (numberOf (writeSized short size image out .outcome)) (writeSized short size image out .offset)
-    unfolding writeSized
-    write-room size image true = nowhere (FirstBadOf m) 15 (λ z. omega (arith, z))
-    write-room size image false = nowhere (FirstBadOf m) 0 (λ z. omega (arith, z))
+-- ---- a typed message
+module _ (m : Message) where
+  under-type : (l : Layout) → shapeOf (typeOf m) ≡ Shape.Known l → (n : ℕ) → FirstBadOf m n → FirstBad l (fieldsOf m) n
+  under-type l known n x = subst (λ (y : Layout). FirstBad y (fieldsOf m) n) (same-layout (x .known) known) (x .first)
 
-    write-fault : (l : Layout) → shapeOf (typeOf m) ≡ Shape.Known l → (x : Fault) → faultOf l (fieldsOf m) ≡ x →
-        Locates (FirstBadOf m) (numberOf (writeBy x l m plain out .outcome)) (writeBy x l m plain out .offset)
-    unfolding writeBy
-    write-fault l known (Fault.At n) e = there (FirstBadOf m) n (record { layout = l; known = known; first = message-first m l known n e })
-    write-fault l known Fault.Nothing e = write-room (l .size) (imageOf l (typeOf m) (fieldsOf m) plain) (ltb (length out) (l .size))
+  located : (l : Layout) → shapeOf (typeOf m) ≡ Shape.Known l → (n : ℕ) → faultOf l (fieldsOf m) ≡ Fault.At n → Locates (FirstBadOf m) 4 n
+  located l known n e =
+      let first = message-first m l known n e in
+      locates-at (FirstBadOf m) n (record { layout = l; known = known; first = first }) (λ k x. one-first first (under-type l known k x))
 
-    write-shape : (x : Shape) → shapeOf (typeOf m) ≡ x → Locates (FirstBadOf m) (numberOf (writeShape x m plain out .outcome)) (writeShape x m plain out .offset)
-    unfolding writeShape
-    write-shape Shape.Unknown e = nowhere (FirstBadOf m) 3 (λ z. omega (arith, z))
-    write-shape (Shape.Known l) e = write-fault l e (faultOf l (fieldsOf m)) refl
+  unlocated : (l : Layout) → shapeOf (typeOf m) ≡ Shape.Known l → faultOf l (fieldsOf m) ≡ Fault.Nothing → (number : ℕ) → number ≢ 4 → Locates (FirstBadOf m) number 0
+  unlocated l known e number other = locates-none (FirstBadOf m) number other (λ k x. no-first e (under-type l known k x))
 
-    pub write-locates : Locates (FirstBadOf m) (numberOf (writeOf m plain out .outcome)) (writeOf m plain out .offset)
-    unfolding writeOf
-    write-locates = write-shape (shapeOf (typeOf m)) refl
+  -- tested
+  pub field-locates : Locates (FirstBadOf m) (numberOf (badFieldOf m .outcome)) (badFieldOf m .offset)
+  unfolding faultIn
+  field-locates = by-shape (shapeOf (typeOf m)) refl
+    where
+      by-fault : (l : Layout) → shapeOf (typeOf m) ≡ Shape.Known l → (x : Fault) → faultOf l (fieldsOf m) ≡ x → Locates (FirstBadOf m) (numberOf (faultAs x .outcome)) (faultAs x .offset)
+      by-fault l known Fault.Nothing e = unlocated l known e 0 (λ z. omega (arith, z))
+      by-fault l known (Fault.At n) e = located l known n e
+
+      by-shape : (x : Shape) → shapeOf (typeOf m) ≡ x → Locates (FirstBadOf m) (numberOf (faultAs (faultUnder x m) .outcome)) (faultAs (faultUnder x m) .offset)
+      by-shape Shape.Unknown e = locates-none (FirstBadOf m) 0 (λ z. omega (arith, z)) (λ k x. no-layout e (x .known))
+      by-shape (Shape.Known l) e = by-fault l e (faultOf l (fieldsOf m)) refl
+
+  -- written
+  pub write-locates : (plain out : List ℕ) → Locates (FirstBadOf m) (numberOf (writeOf m plain out .outcome)) (writeOf m plain out .offset)
+  write-locates plain out = go (writeOf m plain out) (how-written m plain out)
+    where
+      go : (w : Write) → HowWritten m plain out w → Locates (FirstBadOf m) (numberOf (w .outcome)) (w .offset)
+      go _ (unknown-type e) = locates-none (FirstBadOf m) 3 (λ z. omega (arith, z)) (λ k x. no-layout e (x .known))
+      go _ (bad-field {l = l} {n = n} known e) = located l known n e
+      go _ (no-room {l = l} known good short) = unlocated l known good 15 (λ z. omega (arith, z))
+      go _ (all-written {l = l} known good fits) = unlocated l known good 0 (λ z. omega (arith, z))

@@ -1,28 +1,25 @@
--- Each refusal is a clause of its own, with its number, which hands back no message or leaves the buffer; the clause that is done lays its bytes before what stood behind them.
+-- A refusal has its clause's number, hands back no message or leaves the buffer; the clause that is done lays its bytes before what stood behind them.
 use mathlib.Core.Bool.{Bool, true, false}
 use mathlib.Core.List.{List}
 use mathlib.Core.Path.{_≡_, refl, sym, ap, _∙_, subst}
 use Prim.Native.Nat.{ℕ}
 use native.Mathlib.Omega.{arith}
-use lib.Dec.{eqb, ltb}
-use lib.ListN.{length, take, drop, length-append, length-drop}
+use lib.Dec.{ltb}
+use lib.ListN.{length, take, drop, replicate, length-append, length-drop}
 use lib.Seq.{length-take-le, drop-at}
-use borrow.Author.Tests.{ltb-false}
 use Rattle.wire.specs.Outcome.{Outcome, done, refused, numberOf}
 use Rattle.wire.specs.Bytes.{plainRoom}
 use Rattle.wire.specs.Table.{shapeOf}
-use Rattle.wire.specs.Fields.{fieldsAt, faultOf}
 use Rattle.wire.specs.Message.{fieldsOf, typeOf}
-use Rattle.wire.specs.Reading.{leastSize, msgSize, msgType, reachBy, reachOf, Read, noMessage, readBy, readBody, readSized, readShape, readTyped, readReached, readOf}
-use Rattle.wire.specs.Writing.{Write, refuse, Fills, imageOf, writeSized, writeBy, writeShape, writeOf}
-use Rattle.wire.specs.declared.table.Layout.{Layout}
+use Rattle.wire.specs.Reading.{leastSize, msgSize, reachBy, reachOf, Read, readOf}
+use Rattle.wire.specs.Writing.{Write, Fills, imageOf, writeOf}
 use Rattle.wire.specs.declared.table.Shape.{Shape}
-use Rattle.wire.specs.declared.Fault.{Fault}
 use Rattle.wire.specs.declared.Message.{Message}
-use Rattle.wire.proofs.Cases.{done-is-not-refused, reached, reach-size, own-size, read-reached}
+use Rattle.wire.proofs.Cases.{done-is-not-refused, reached, reach-size, own-size}
 use Rattle.wire.proofs.Types.{IsKnown, type-known}
 use Rattle.wire.proofs.Layouts.{layout-sane}
 use Rattle.wire.proofs.Images.{image-long}
+use Rattle.wire.proofs.Ways.{HowRead, unreached, unknown-type, other-size, bad-field, good-fields, how-read, HowWritten, no-room, all-written, how-written}
 
 -- a refusal has one number
 same-number : {A : Type 0} (P : ℕ → Type 0) (k n : ℕ) → P k → _≡_ {A = Outcome A} (refused k) (refused n) → P n
@@ -39,49 +36,27 @@ reach-refused P short small s n = go (ltb (length s) leastSize) (ltb (msgSize s)
     go false false true e = same-number P 1 n short e
     go false false false e = absurd (done-is-not-refused (sym e))
 
--- ---- reading: a refusal hands back no message, and zeros
-pub record ReadRefused (P : ℕ → Type 0) (d : Read) (n : ℕ) : Type 0 where
-  pub number : P n
-  pub nothing : d ≡ noMessage n (d .offset)
+-- ---- reading: what holds of 1 to 4 holds of a refusal, and it hands back zeros
+module _ (P : ℕ → Type 0) (size : P 2) (type : P 3) (field : P 4) (s : List ℕ) where
+  by-way : ((n : ℕ) → reachOf s ≡ refused n → P n) → (r : Read) → HowRead s r → (n : ℕ) → r .outcome ≡ refused n → P n
+  by-way unread _ (unreached {n = k} q) n e = same-number P k n (unread k q) e
+  by-way unread _ (unknown-type there q) n e = same-number P 3 n type e
+  by-way unread _ (other-size there known q) n e = same-number P 2 n size e
+  by-way unread _ (bad-field there known q) n e = same-number P 4 n field e
+  by-way unread _ (good-fields there known q) n e = absurd (done-is-not-refused (sym e))
 
-module _ (P : ℕ → Type 0) where
-  abbrev RefusesBy : Read → Type 0
-  RefusesBy d = (n : ℕ) → d .outcome ≡ refused n → ReadRefused P d n
+  pub read-refused : P 1 → (n : ℕ) → readOf s .outcome ≡ refused n → P n
+  read-refused short = by-way (reach-refused P short size s) (readOf s) (how-read s)
 
-  refuses : (k offset : ℕ) → P k → RefusesBy (noMessage k offset)
-  refuses k offset h n e = record { number = same-number P k n h e; nothing = ap (λ j. noMessage j offset) (ap numberOf e) }
-
-  module _ (size : P 2) (type : P 3) (field : P 4) (s : List ℕ) where
-    -- what holds of 2, 3 and 4 holds of the refusal of a message that is reached
-    by-fault : (l : Layout) (x : Fault) → RefusesBy (readBy x s l)
-    unfolding readBy
-    by-fault l (Fault.At k) = refuses 4 k field
-    by-fault l Fault.Nothing = λ n e. absurd (done-is-not-refused (sym e))
-
-    by-size : (l : Layout) (right : Bool) → RefusesBy (readSized right s l)
-    unfolding readSized readBody
-    by-size l false = refuses 2 0 size
-    by-size l true = by-fault l (faultOf l (fieldsAt s l))
-
-    by-shape : (n : ℕ) (x : Shape) → RefusesBy (readShape x s n)
-    unfolding readShape
-    by-shape n Shape.Unknown = refuses 3 0 type
-    by-shape n (Shape.Known l) = by-size l (eqb n (l .size))
-
-    pub typed-refused : (n : ℕ) → RefusesBy (readTyped s n)
-    unfolding readTyped
-    typed-refused n = by-shape n (shapeOf (msgType s))
-
-    -- and what holds of 1 too holds of any
-    module _ (short : P 1) where
-      by-reach : (x : Outcome ℕ) → ((n : ℕ) → x ≡ refused n → P n) → RefusesBy (readReached x s)
-      unfolding readReached
-      by-reach (refused k) h = refuses k 0 (h k refl)
-      by-reach (done n) h = typed-refused n
-
-      pub read-refused : RefusesBy (readOf s)
-      unfolding readOf
-      read-refused = by-reach (reachOf s) (reach-refused P short size s)
+pub read-zeros : (s : List ℕ) (n : ℕ) → readOf s .outcome ≡ refused n → readOf s .plain ≡ replicate plainRoom 0
+read-zeros s n = go (readOf s) (how-read s)
+  where
+    go : (r : Read) → HowRead s r → r .outcome ≡ refused n → r .plain ≡ replicate plainRoom 0
+    go _ (unreached q) e = refl
+    go _ (unknown-type there q) e = refl
+    go _ (other-size there known q) e = refl
+    go _ (bad-field there known q) e = refl
+    go _ (good-fields there known q) e = absurd (done-is-not-refused (sym e))
 
 -- ---- a message that is reached is not refused for its bytes being too few
 pub own-reach : (s : List ℕ) (n : ℕ) → reachOf s ≡ done n → reachOf (take n s) ≡ done n
@@ -91,69 +66,43 @@ own-reach s n e =
     reach-size (take n s) (omega (arith, r .least)) (omega (arith, r .least, own-size s n e)) (omega (arith, own-size s n e)) ∙ ap done (own-size s n e)
 
 pub reached-refused : (P : ℕ → Type 0) → P 2 → P 3 → P 4 → (s : List ℕ) (n : ℕ) → reachOf s ≡ done n → (k : ℕ) → readOf (take n s) .outcome ≡ refused k → P k
-reached-refused P size type field s n e k q =
-    typed-refused P size type field (take n s) n k (sym (ap (λ (d : Read). d .outcome) (read-reached (take n s) n (own-reach s n e))) ∙ q) .number
+reached-refused P size type field s n e = by-way P size type field (take n s) (λ k q. absurd (done-is-not-refused (sym q ∙ own-reach s n e))) (readOf (take n s)) (how-read (take n s))
 
--- ---- writing: a refusal leaves the buffer
-pub record WriteRefused (P : ℕ → Type 0) (out : List ℕ) (w : Write) (n : ℕ) : Type 0 where
-  pub number : P n
-  pub untouched : w ≡ refuse n (w .offset) out
-
+-- ---- writing: what holds of 4 and 15 holds of a refusal, and it leaves the buffer
 module _ (m : Message) (plain out : List ℕ) where
-  module _ (P : ℕ → Type 0) (field : P 4) (room : P 15) where
-    abbrev Leaves : Write → Type 0
-    Leaves w = (n : ℕ) → w .outcome ≡ refused n → WriteRefused P out w n
+  known-type : shapeOf (typeOf m) ≡ Shape.Unknown → ⊥
+  known-type e = subst IsKnown e (type-known m)
 
-    leaves : (k offset : ℕ) → P k → Leaves (refuse k offset out)
-    leaves k offset h n e = record { number = same-number P k n h e; untouched = ap (λ (i : ℕ). refuse i offset out) (ap numberOf e) }
+  pub write-refused : (P : ℕ → Type 0) → P 4 → P 15 → (n : ℕ) → writeOf m plain out .outcome ≡ refused n → P n
+  write-refused P field room n = go (writeOf m plain out) (how-written m plain out)
+    where
+      go : (w : Write) → HowWritten m plain out w → w .outcome ≡ refused n → P n
+      go _ (unknown-type q) e = absurd (known-type q)
+      go _ (bad-field known q) e = same-number P 4 n field e
+      go _ (no-room known good short) e = same-number P 15 n room e
+      go _ (all-written known good fits) e = absurd (done-is-not-refused (sym e))
 
-    by-room : (size : ℕ) (image : List ℕ) (short : Bool) → Leaves (writeSized short size image out)
-    unfolding writeSized
-    by-room size image true = leaves 15 0 room
-    by-room size image false = λ n e. absurd (done-is-not-refused (sym e))
-
-    by-field : (l : Layout) (x : Fault) → Leaves (writeBy x l m plain out)
-    unfolding writeBy
-    by-field l (Fault.At n) = leaves 4 n field
-    by-field l Fault.Nothing = by-room (l .size) (imageOf l (typeOf m) (fieldsOf m) plain) (ltb (length out) (l .size))
-
-    by-type : (x : Shape) → IsKnown x → Leaves (writeShape x m plain out)
-    unfolding writeShape
-    by-type Shape.Unknown k = absurd k
-    by-type (Shape.Known l) k = by-field l (faultOf l (fieldsOf m))
-
-    -- what holds of 4 and 15 holds of a refusal
-    pub write-refused : Leaves (writeOf m plain out)
-    unfolding writeOf
-    write-refused = by-type (shapeOf (typeOf m)) (type-known m)
+  pub write-untouched : (n : ℕ) → writeOf m plain out .outcome ≡ refused n → writeOf m plain out .out ≡ out
+  write-untouched n = go (writeOf m plain out) (how-written m plain out)
+    where
+      go : (w : Write) → HowWritten m plain out w → w .outcome ≡ refused n → w .out ≡ out
+      go _ (unknown-type q) e = refl
+      go _ (bad-field known q) e = refl
+      go _ (no-room known good short) e = refl
+      go _ (all-written known good fits) e = absurd (done-is-not-refused (sym e))
 
   -- ---- and whatever is answered, no byte beyond the count changes
-  module _ (long : length plain ≡ plainRoom) where
-    untouched-fills : (n offset : ℕ) → Fills out (refuse n offset out)
-    untouched-fills n offset = record { long = refl; within = omega arith; beyond = refl }
-
-    laid-fills : (l : Layout) → shapeOf (typeOf m) ≡ Shape.Known l → (short : Bool) → ltb (length out) (l .size) ≡ short → Fills out (writeSized short (l .size) (imageOf l (typeOf m) (fieldsOf m) plain) out)
-    unfolding writeSized
-    laid-fills l known true e = untouched-fills 15 0
-    laid-fills l known false e =
-        let there = ltb-false (length out) (l .size) e in
-        let image = image-long l (layout-sane (typeOf m) l known) (typeOf m) (fieldsOf m) plain (drop (l .size) out) long in
-        record {
-          long = length-append (imageOf l (typeOf m) (fieldsOf m) plain) (drop (l .size) out) ∙ omega (arith, image, there, length-drop (l .size) out);
-          within = omega (arith, there);
-          beyond = drop-at (imageOf l (typeOf m) (fieldsOf m) plain) (drop (l .size) out) (l .size) image;
-        }
-
-    fault-fills : (l : Layout) → shapeOf (typeOf m) ≡ Shape.Known l → (x : Fault) → Fills out (writeBy x l m plain out)
-    unfolding writeBy
-    fault-fills l known (Fault.At n) = untouched-fills 4 n
-    fault-fills l known Fault.Nothing = laid-fills l known (ltb (length out) (l .size)) refl
-
-    shape-fills : (x : Shape) → shapeOf (typeOf m) ≡ x → Fills out (writeShape x m plain out)
-    unfolding writeShape
-    shape-fills Shape.Unknown e = untouched-fills 3 0
-    shape-fills (Shape.Known l) e = fault-fills l e (faultOf l (fieldsOf m))
-
-    pub write-fills : Fills out (writeOf m plain out)
-    unfolding writeOf
-    write-fills = shape-fills (shapeOf (typeOf m)) refl
+  pub write-fills : length plain ≡ plainRoom → Fills out (writeOf m plain out)
+  write-fills long = go (writeOf m plain out) (how-written m plain out)
+    where
+      go : (w : Write) → HowWritten m plain out w → Fills out w
+      go _ (unknown-type q) = record { long = refl; within = omega arith; beyond = refl }
+      go _ (bad-field known q) = record { long = refl; within = omega arith; beyond = refl }
+      go _ (no-room known good short) = record { long = refl; within = omega arith; beyond = refl }
+      go _ (all-written {l = l} known good fits) =
+          let image = image-long l (layout-sane (typeOf m) l known) (typeOf m) (fieldsOf m) plain (drop (l .size) out) long in
+          record {
+            long = length-append (imageOf l (typeOf m) (fieldsOf m) plain) (drop (l .size) out) ∙ omega (arith, image, fits, length-drop (l .size) out);
+            within = omega (arith, fits);
+            beyond = drop-at (imageOf l (typeOf m) (fieldsOf m) plain) (drop (l .size) out) (l .size) image;
+          }

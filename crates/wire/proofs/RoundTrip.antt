@@ -1,30 +1,28 @@
 -- Demand 2's round trips hold since the fields of a message fit the layout of its type, and the bytes of a layout are read where they are written.
-use mathlib.Core.Path.{_≡_, refl, sym, ap, _∙_}
+use mathlib.Core.Path.{_≡_, refl, sym, ap, _∙_, subst}
 use mathlib.Core.List.{List, _++_}
-use mathlib.Core.Bool.{Bool, true, false}
 use Prim.Native.Nat.{ℕ, _-_, _≤_}
 use native.Mathlib.Omega.{arith}
 use lib.ListN.{length, take, drop}
-use lib.Dec.{eqb, ltb}
-use borrow.Author.Tests.{eqb-true}
 use lib.Seq.{slice}
 use Rattle.wire.specs.declared.table.Layout.{Layout}
 use Rattle.wire.specs.declared.table.Shape.{Shape}
 use Rattle.wire.specs.declared.Fault.{Fault}
 use Rattle.wire.specs.declared.Message.{Message}
-use Rattle.wire.specs.Outcome.{Outcome, done, refused}
+use Rattle.wire.specs.Outcome.{done, only}
 use Rattle.wire.specs.Bytes.{paddedPlain, plainRoom}
 use Rattle.wire.specs.Table.{shapeOf, table}
 use Rattle.wire.specs.Fields.{fieldsAt, faultOf, endsOf, valuesOf}
 use Rattle.wire.specs.Message.{messageOf, fieldsOf, typeOf}
-use Rattle.wire.specs.Reading.{msgSize, msgType, reachOf, Read, readBy, readBody, readSized, readShape, readTyped, readReached, readOf}
-use Rattle.wire.specs.Writing.{imageOf, writeSized, writeBy, writeShape, writeOf}
+use Rattle.wire.specs.Reading.{msgSize, msgType, Read, readAs, goodRead, readOf}
+use Rattle.wire.specs.Writing.{Write, leaving, imageOf, writeOf}
 use Rattle.wire.specs.RoundTrip.{InRange, Bytes, arrayWidth, sameMessage, ReadsBack, ReservedZero, WritesBack}
 use Rattle.wire.proofs.Numbers.{value-empty}
 use Rattle.wire.proofs.Layouts.{AllRows, by-rows, at-row, layout-sane}
-use Rattle.wire.proofs.Cases.{done-is-not-refused, Reaches, reached, reach-size, read-reached, read-size, read-good, write-good, write-room}
+use Rattle.wire.proofs.Cases.{done-is-not-refused, reached, reach-size, read-reached, read-size, read-good, write-good, write-room}
 use Rattle.wire.proofs.Rows.{WithinWidths}
 use Rattle.wire.proofs.Images.{image-there, image-array, image-size, image-type, image-fields, image-of-read}
+use Rattle.wire.proofs.Ways.{HowRead, unreached, unknown-type, other-size, bad-field, good-fields, how-read, HowWritten, no-room, all-written, how-written}
 
 -- ---- each message and its layout
 
@@ -64,7 +62,7 @@ keeps = by-rows Keeps kept-row
 
 module _ (m : Message) (plain out : List ℕ) (long : length plain ≡ plainRoom) (w : InRange (fieldsOf m)) where
   module _ (l : Layout) (known : shapeOf (typeOf m) ≡ Shape.Known l) (good : faultOf l (fieldsOf m) ≡ Fault.Nothing) where
-    read-image : (rest : List ℕ) → readOf (imageOf l (typeOf m) (fieldsOf m) plain ++ rest) ≡ record { outcome = done m; offset = 0; plain = paddedPlain (take (l .pad - l .plain) plain) }
+    read-image : (rest : List ℕ) → readOf (imageOf l (typeOf m) (fieldsOf m) plain ++ rest) ≡ readAs (only (done m)) (paddedPlain (take (l .pad - l .plain) plain))
     read-image rest =
         let f = fieldsOf m in
         let sane = layout-sane (typeOf m) l known in
@@ -77,75 +75,50 @@ module _ (m : Message) (plain out : List ℕ) (long : length plain ≡ plainRoom
         read-reached s (msgSize s) (reach-size s (omega arith) (omega arith) (omega arith))
         ∙ read-size s (msgSize s) l (ap shapeOf type ∙ known) size
         ∙ read-good s l (ap (faultOf l) fields ∙ good)
-        ∙ (λ i. record { outcome = done ((ap (messageOf (l .kind)) fields ∙ u .again) i); offset = 0; plain = paddedPlain (image-array l sane (typeOf m) f plain rest long i) })
+        ∙ (λ i. readAs (only (done ((ap (messageOf (l .kind)) fields ∙ u .again) i))) (paddedPlain (image-array l sane (typeOf m) f plain rest long i)))
 
-  -- by the cases of writing: only the last one is done
-  by-room : (n : ℕ) (l : Layout) → shapeOf (typeOf m) ≡ Shape.Known l → faultOf l (fieldsOf m) ≡ Fault.Nothing → (b : Bool) →
-      writeSized b (l .size) (imageOf l (typeOf m) (fieldsOf m) plain) out .outcome ≡ done n → readOf (writeSized b (l .size) (imageOf l (typeOf m) (fieldsOf m) plain) out .out) ≡ sameMessage m plain
-  unfolding writeSized
-  by-room n l known good true e = absurd (done-is-not-refused e)
-  by-room n l known good false e =
-      read-image l known good (drop (l .size) out) ∙ ap (λ (x : Shape). record { outcome = done m; offset = 0; plain = paddedPlain (take (arrayWidth x) plain) }) (sym known)
-
-  by-fault : (n : ℕ) (l : Layout) → shapeOf (typeOf m) ≡ Shape.Known l → (x : Fault) → faultOf l (fieldsOf m) ≡ x →
-      writeBy x l m plain out .outcome ≡ done n → readOf (writeBy x l m plain out .out) ≡ sameMessage m plain
-  unfolding writeBy
-  by-fault n l known (Fault.At k) q e = absurd (done-is-not-refused e)
-  by-fault n l known Fault.Nothing q e = by-room n l known q (ltb (length out) (l .size)) e
-
-  by-shape : (n : ℕ) (x : Shape) → shapeOf (typeOf m) ≡ x → writeShape x m plain out .outcome ≡ done n → readOf (writeShape x m plain out .out) ≡ sameMessage m plain
-  unfolding writeShape
-  by-shape n Shape.Unknown q e = absurd (done-is-not-refused e)
-  by-shape n (Shape.Known l) q e = by-fault n l q (faultOf l (fieldsOf m)) refl e
-
+  -- of the ways of writing only the last one is done
   pub read-what-was-written : ReadsBack m plain (writeOf m plain out)
-  unfolding ReadsBack writeOf
-  read-what-was-written n e = by-shape n (shapeOf (typeOf m)) refl e
+  unfolding ReadsBack
+  read-what-was-written n = go (writeOf m plain out) (how-written m plain out)
+    where
+      go : (x : Write) → HowWritten m plain out x → x .outcome ≡ done n → readOf (x .out) ≡ sameMessage m plain
+      go _ (unknown-type q) e = absurd (done-is-not-refused e)
+      go _ (bad-field known q) e = absurd (done-is-not-refused e)
+      go _ (no-room known good short) e = absurd (done-is-not-refused e)
+      go _ (all-written {l = l} known good fits) e =
+          read-image l known good (drop (l .size) out) ∙ ap (λ (x : Shape). readAs (only (done m)) (paddedPlain (take (arrayWidth x) plain))) (sym known)
 
 -- ---- writing what was read
 
 module _ (s : List ℕ) (bytes : Bytes s) (m : Message) (out : List ℕ) where
   abbrev WroteAll : Read → Type 0
-  WroteAll r = writeOf m (r .plain) out ≡ record { outcome = done (msgSize s); offset = 0; out = take (msgSize s) s ++ drop (msgSize s) out }
+  WroteAll r = writeOf m (r .plain) out ≡ leaving (only (done (msgSize s))) (take (msgSize s) s ++ drop (msgSize s) out)
 
   module _ (l : Layout) (known : shapeOf (msgType s) ≡ Shape.Known l) (size : msgSize s ≡ l .size) (there : msgSize s ≤ length s) (room : msgSize s ≤ length out) where
-    back-fields : (x : Fault) → faultOf l (fieldsAt s l) ≡ x → readBy x s l .outcome ≡ done m → ReservedZero (Shape.Known l) s → WroteAll (readBy x s l)
-    unfolding readBy
-    back-fields (Fault.At k) q e zero = absurd (done-is-not-refused e)
-    back-fields Fault.Nothing q e zero =
+    wrote-all : faultOf l (fieldsAt s l) ≡ Fault.Nothing → messageOf (l .kind) (fieldsAt s l) ≡ m → ReservedZero (Shape.Known l) s → WroteAll (goodRead s l (fieldsAt s l))
+    wrote-all good is zero =
         let kept = keeps (msgType s) l known in
-        let is : messageOf (l .kind) (fieldsAt s l) ≡ m = cc in
         let type : typeOf m ≡ msgType s = ap typeOf (sym is) ∙ kept .type s in
         let fields : fieldsOf m ≡ fieldsAt s l = ap fieldsOf (sym is) ∙ kept .fields s in
         let plain = paddedPlain (slice (l .plain) (l .pad) s) in
         let image = image-of-read s l bytes (layout-sane (msgType s) l known) size (omega arith) (zero .0) (zero .1) in
-        write-good m plain out l (ap shapeOf type ∙ known) (ap (faultOf l) fields ∙ q)
+        write-good m plain out l (ap shapeOf type ∙ known) (ap (faultOf l) fields ∙ good)
         ∙ write-room (l .size) (imageOf l (typeOf m) (fieldsOf m) plain) out (omega arith)
-        ∙ (λ i. record { outcome = done (sym size i); offset = 0; out = ((λ j. imageOf l (type j) (fields j) plain) ∙ image) i ++ drop (l .size) out })
-        ∙ (λ i. record { outcome = done (msgSize s); offset = 0; out = take (sym size i) s ++ drop (sym size i) out })
+        ∙ (λ i. leaving (only (done (sym size i))) (((λ j. imageOf l (type j) (fields j) plain) ∙ image) i ++ drop (l .size) out))
+        ∙ (λ i. leaving (only (done (msgSize s))) (take (sym size i) s ++ drop (sym size i) out))
 
-    back-size : (b : Bool) → readSized b s l .outcome ≡ done m → ReservedZero (Shape.Known l) s → WroteAll (readSized b s l)
-    unfolding readSized readBody
-    back-size false e zero = absurd (done-is-not-refused e)
-    back-size true e zero = back-fields (faultOf l (fieldsAt s l)) refl e zero
-
-  sized : (l : Layout) (n : ℕ) (b : Bool) → eqb n (l .size) ≡ b → readSized b s l .outcome ≡ done m → n ≡ l .size
-  unfolding readSized
-  sized l n true q e = eqb-true n (l .size) q
-  sized l n false q e = absurd (done-is-not-refused e)
-
-  back-shape : (n : ℕ) → Reaches s n → (x : Shape) → shapeOf (msgType s) ≡ x → readShape x s n .outcome ≡ done m → ReservedZero x s → msgSize s ≤ length out → WroteAll (readShape x s n)
-  unfolding readShape
-  back-shape n r Shape.Unknown q e zero room = absurd (done-is-not-refused e)
-  back-shape n r (Shape.Known l) q e zero room =
-      let same : n ≡ l .size = sized l n (eqb n (l .size)) refl e in
-      back-size l q (r .size ∙ same) (omega (arith, r .size, r .there)) room (eqb n (l .size)) e zero
-
-  back-reached : (x : Outcome ℕ) → reachOf s ≡ x → readReached x s .outcome ≡ done m → ReservedZero (shapeOf (msgType s)) s → msgSize s ≤ length out → WroteAll (readReached x s)
-  unfolding readReached readTyped
-  back-reached (refused n) q e zero room = absurd (done-is-not-refused e)
-  back-reached (done n) q e zero room = back-shape n (reached s n q) (shapeOf (msgType s)) refl e zero room
-
+-- of the ways of reading only the last one is done
 pub write-what-was-read : (s : List ℕ) → Bytes s → WritesBack s (readOf s)
-unfolding WritesBack readOf
-write-what-was-read s bytes m e zero out room = back-reached s bytes m out (reachOf s) refl e zero room
+unfolding WritesBack
+write-what-was-read s bytes m = go (readOf s) (how-read s)
+  where
+    go : (r : Read) → HowRead s r → r .outcome ≡ done m → ReservedZero (shapeOf (msgType s)) s → (out : List ℕ) → msgSize s ≤ length out → WroteAll s bytes m out r
+    go _ (unreached q) e zero out room = absurd (done-is-not-refused e)
+    go _ (unknown-type there q) e zero out room = absurd (done-is-not-refused e)
+    go _ (other-size there known q) e zero out room = absurd (done-is-not-refused e)
+    go _ (bad-field there known q) e zero out room = absurd (done-is-not-refused e)
+    go _ (good-fields {l = l} there known q) e zero out room =
+        let r = reached s (l .size) there in
+        let is : messageOf (l .kind) (fieldsAt s l) ≡ m = cc in
+        wrote-all s bytes m out l known (r .size) (omega (arith, r .size, r .there)) room q is (subst (λ (x : Shape). ReservedZero x s) known zero)

@@ -4,10 +4,11 @@ use mathlib.Core.Bool.{true, false}
 use mathlib.Core.List.{List, [], _∷_}
 use mathlib.Core.Logic.{_⊎_, _≢_}
 use mathlib.Core.Path.{_≡_}
+use Rattle.wire.specs.Outcome.{done}
 use Rattle.wire.specs.Table.{shapeOf}
 use Rattle.wire.specs.Fields.{Check, fieldsAt, checksOf}
 use Rattle.wire.specs.Message.{typeOf, fieldsOf}
-use Rattle.wire.specs.Reading.{leastSize, msgSize, msgType}
+use Rattle.wire.specs.Reading.{leastSize, msgType, reachOf}
 use Rattle.wire.specs.declared.table.Layout.{Layout}
 use Rattle.wire.specs.declared.table.Shape.{Shape}
 use Rattle.wire.specs.declared.fields.Fields.{Fields}
@@ -30,11 +31,11 @@ pub record FirstBad (l : Layout) (f : Fields) (n : ℕ) : Type 0 where
   pub behind-type : leastSize ≤ n
   pub within : n < l .size
 
--- of bytes: a message of a known type and of the type's size
+-- of bytes: a message of a known type is all there, of the type's size
 pub record FirstBadIn (s : List ℕ) (n : ℕ) : Type 0 where
   pub layout : Layout
   pub known : shapeOf (msgType s) ≡ Shape.Known layout
-  pub size : msgSize s ≡ layout .size
+  pub there : reachOf s ≡ done (layout .size)
   pub first : FirstBad layout (fieldsAt s layout) n
 
 -- of a typed message
@@ -43,7 +44,8 @@ pub record FirstBadOf (m : Message) (n : ℕ) : Type 0 where
   pub known : shapeOf (typeOf m) ≡ Shape.Known layout
   pub first : FirstBad layout (fieldsOf m) n
 
--- the offset beside an answer: with 4 the one that is meant, with any other none
-pub record Locates (Meant : ℕ → Type 0) (number offset : ℕ) : Type 0 where
-  pub bad-field : number ≡ 4 → Meant offset
+-- the offset beside an answer: with 4 that of the first bad field, and where there is one, 4 is answered; with any other answer 0
+pub record Locates (First : ℕ → Type 0) (number offset : ℕ) : Type 0 where
+  pub bad-field : number ≡ 4 → First offset
+  pub answered : (n : ℕ) → First n → (number ≡ 4) × (offset ≡ n)
   pub no-field : number ≢ 4 → offset ≡ 0

@@ -10,12 +10,12 @@ abbrev pub numberOf : {A : Type 0} → Outcome A → ℕ
 numberOf (done a) = 0
 numberOf (refused n) = n
 
--- an outcome, and beside a 4 the offset of the first bad field in its message; beside any other 0, where Msg Size stands
+-- an outcome, and beside a 4 the offset of the first bad field in its message; beside any other 0, where no field stands that may be bad
 pub record Answered (A : Type 0) : Type 0 where
   pub outcome : Outcome A
   pub offset : ℕ
 
--- no bad field
+-- an outcome without an offset
 abbrev pub only : {A : Type 0} → Outcome A → Answered A
 only x = record { outcome = x; offset = 0 }
 

@@ -64,23 +64,29 @@ pub record Read : Type 0 where
   pub offset : ℕ
   pub plain : List ℕ
 
-abbrev pub decodedAs : Decoded → Read
-decodedAs d = record { outcome = answeredAs (d .answer) .outcome; offset = answeredAs (d .answer) .offset; plain = d .plain }
+abbrev pub readAs : Answered Message → List ℕ → Read
+readAs a plain = record { outcome = a .outcome; offset = a .offset; plain = plain }
 
--- a refused read, by its number and offset, hands back no message, and zeros
-abbrev pub noMessage : ℕ → ℕ → Read
-noMessage n offset = record { outcome = refused n; offset = offset; plain = replicate plainRoom 0 }
+abbrev pub decodedAs : Decoded → Read
+decodedAs d = readAs (answeredAs (d .answer)) (d .plain)
+
+-- a refused read hands back no message, and zeros; with a bad field it says where that stands
+abbrev pub noMessage : ℕ → Read
+noMessage n = readAs (only (refused n)) (replicate plainRoom 0)
+
+abbrev pub badMessage : ℕ → Read
+badMessage n = readAs (badAt n) (replicate plainRoom 0)
 
 abbrev pub refusedRead : Answer → Decoded
 refusedRead a = record { answer = a; plain = replicate plainRoom 0 }
 
 -- the message of these fields, with its byte array
 abbrev pub goodRead : List ℕ → Layout → Fields → Read
-goodRead s l f = record { outcome = done (messageOf (l .kind) f); offset = 0; plain = paddedPlain (slice (l .plain) (l .pad) s) }
+goodRead s l f = readAs (only (done (messageOf (l .kind) f))) (paddedPlain (slice (l .plain) (l .pad) s))
 
 -- the fields
 unfoldable pub readBy : Fault → List ℕ → Layout → Read
-readBy (Fault.At n) s l = noMessage 4 n
+readBy (Fault.At n) s l = badMessage n
 readBy Fault.Nothing s l = goodRead s l (fieldsAt s l)
 
 unfoldable pub readBody : List ℕ → Layout → Read
@@ -88,18 +94,18 @@ readBody s l = readBy (faultOf l (fieldsAt s l)) s l
 
 -- the type, then the size: is Msg Size the size of the type?
 unfoldable pub readSized : Bool → List ℕ → Layout → Read
-readSized false s l = noMessage 2 0
+readSized false s l = noMessage 2
 readSized true s l = readBody s l
 
 unfoldable pub readShape : Shape → List ℕ → ℕ → Read
-readShape Shape.Unknown s size = noMessage 3 0
+readShape Shape.Unknown s size = noMessage 3
 readShape (Shape.Known l) s size = readSized (eqb size (l .size)) s l
 
 unfoldable pub readTyped : List ℕ → ℕ → Read
 readTyped s size = readShape (shapeOf (msgType s)) s size
 
 unfoldable pub readReached : Outcome ℕ → List ℕ → Read
-readReached (refused n) s = noMessage n 0
+readReached (refused n) s = noMessage n
 readReached (done size) s = readTyped s size
 
 -- the message at the start of s

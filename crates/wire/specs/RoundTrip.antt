@@ -3,12 +3,12 @@ use Prim.Native.Nat.{ℕ, _-_, _^_, _≤_, _<_}
 use mathlib.Core.List.{List, _++_}
 use mathlib.Core.Path.{_≡_}
 use lib.ListN.{length, take, drop, getD}
-use Rattle.wire.specs.Outcome.{done}
+use Rattle.wire.specs.Outcome.{done, only}
 use Rattle.wire.specs.Bytes.{valueAt, paddedPlain}
 use Rattle.wire.specs.Table.{shapeOf}
 use Rattle.wire.specs.Message.{typeOf}
-use Rattle.wire.specs.Reading.{msgSize, msgType, Read, readOf}
-use Rattle.wire.specs.Writing.{Write, writeOf}
+use Rattle.wire.specs.Reading.{msgSize, msgType, Read, readAs, readOf}
+use Rattle.wire.specs.Writing.{Write, leaving, writeOf}
 use Rattle.wire.specs.declared.table.Shape.{Shape}
 use Rattle.wire.specs.declared.fields.Fields.{Fields}
 use Rattle.wire.specs.declared.Message.{Message}
@@ -38,7 +38,7 @@ arrayWidth (Shape.Known l) = l .pad - l .plain
 
 -- the same message: the bytes of its array beyond its type's width are no part of it
 abbrev pub sameMessage : Message → List ℕ → Read
-sameMessage m plain = record { outcome = done m; offset = 0; plain = paddedPlain (take (arrayWidth (shapeOf (typeOf m))) plain) }
+sameMessage m plain = readAs (only (done m)) (paddedPlain (take (arrayWidth (shapeOf (typeOf m))) plain))
 
 -- Reading what was written gives the same message.
 unfoldable pub ReadsBack : Message → List ℕ → Write → Type 0
@@ -52,4 +52,4 @@ ReservedZero (Shape.Known l) s = (valueAt s (l .gap) (l .plain) ≡ 0) × (value
 -- Writing what was read gives the same bytes, where the reserved bytes are zero.
 unfoldable pub WritesBack : List ℕ → Read → Type 0
 WritesBack s r = (m : Message) → r .outcome ≡ done m → ReservedZero (shapeOf (msgType s)) s → (out : List ℕ) → msgSize s ≤ length out →
-    writeOf m (r .plain) out ≡ record { outcome = done (msgSize s); offset = 0; out = take (msgSize s) s ++ drop (msgSize s) out }
+    writeOf m (r .plain) out ≡ leaving (only (done (msgSize s))) (take (msgSize s) s ++ drop (msgSize s) out)

@@ -41,9 +41,12 @@ leaving a out = record { outcome = a .outcome; offset = a .offset; out = out }
 abbrev pub wrote : Written → List ℕ → Write
 wrote w out = leaving (wroteAs w) out
 
--- a refused write, by its number and offset, leaves the buffer as it was
-abbrev pub refuse : ℕ → ℕ → List ℕ → Write
-refuse n offset out = record { outcome = refused n; offset = offset; out = out }
+-- a refused write leaves the buffer as it was; with a bad field it says where that stands
+abbrev pub refuse : ℕ → List ℕ → Write
+refuse n out = leaving (only (refused n)) out
+
+abbrev pub refuseField : ℕ → List ℕ → Write
+refuseField n out = leaving (badAt n) out
 
 -- a write that leaves the buffer as long as it was, counts no more bytes than that, and changes none beyond the count
 pub record Fills (out : List ℕ) (w : Write) : Type 0 where
@@ -57,15 +60,15 @@ imageOf l type f plain = bytesOf 0 (endsOf l) (valuesOf (l .size) type f) ++ tak
 
 -- is the buffer shorter than the message?
 unfoldable pub writeSized : Bool → ℕ → List ℕ → List ℕ → Write
-writeSized true size image out = refuse 15 0 out
-writeSized false size image out = record { outcome = done size; offset = 0; out = image ++ drop size out }
+writeSized true size image out = refuse 15 out
+writeSized false size image out = leaving (only (done size)) (image ++ drop size out)
 
 unfoldable pub writeBy : Fault → Layout → Message → List ℕ → List ℕ → Write
-writeBy (Fault.At n) l m plain out = refuse 4 n out
+writeBy (Fault.At n) l m plain out = refuseField n out
 writeBy Fault.Nothing l m plain out = writeSized (ltb (length out) (l .size)) (l .size) (imageOf l (typeOf m) (fieldsOf m) plain) out
 
 unfoldable pub writeShape : Shape → Message → List ℕ → List ℕ → Write
-writeShape Shape.Unknown m plain out = refuse 3 0 out
+writeShape Shape.Unknown m plain out = refuse 3 out
 writeShape (Shape.Known l) m plain out = writeBy (faultOf l (fieldsOf m)) l m plain out
 
 -- the message at the start of out

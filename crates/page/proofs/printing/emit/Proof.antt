@@ -4,7 +4,8 @@ use native.Mathlib.Omega.{arith}
 use lib.ListN.{length}
 use denote.Ref.{now}
 use borrow.Author.Needs.{needs}
-use Rattle.wire.specs.Outcome.{done}
+use Rattle.wire.specs.Outcome.{done, only}
+use Rattle.wire.specs.Writing.{leaving}
 use Rattle.columns.specs.Held.{room, held}
 use Rattle.columns.proofs.Holding.{within-its-bytes}
 use Rattle.page.proofs.Cases.{laid-short, laid-copied}
@@ -35,7 +36,7 @@ returns-2 : tie.Need-returns-2
 returns-2 c =
     let k = c .before .before .before .before .before in
     let a = k .before .before .before .args in
-    (λ i. record { outcome = done (k .count .result); offset = 0; out = (c .before .before .copy .ensures) i })
+    (λ i. leaving (only (done (k .count .result))) ((c .before .before .copy .ensures) i))
     ∙ laid-copied (held (a .l)) _ (now (a .out)) _ (k .count .ensures) (k .before .bytes .ensures .shows) (c .before .before .before .before .if1 .left)
 
 pub emit-spec : {M : Type 1} → statement M
