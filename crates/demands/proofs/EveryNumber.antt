@@ -12,11 +12,12 @@ use Rattle.wire.specs.Writing.{Write, writeSized, writeBy, writeShape, writeOf}
 use Rattle.wire.specs.Message.{faultIn, badFieldOf}
 use Rattle.wire.specs.declared.Message.{Message}
 use Rattle.feed.specs.Reader.{ruled}
-use Rattle.places.specs.Places.{firstWhere, tabulate, insert, remove, look}
+use Rattle.places.specs.Places.{firstWhere, tabulate, fold, sumBy, insert, remove, look}
 use Rattle.symbols.specs.State.{placeOf, foundIn, vacancyOf, paddedName}
 use Rattle.symbols.specs.Registering as registering
 use Rattle.symbols.specs.Registering.{nameBad}
 use Rattle.orders.specs.Rules.{applyTo}
+use Rattle.orders.specs.Levels.{levelOf}
 use Rattle.record.specs.Rules.{dealTo}
 use Rattle.book.specs.State.{View, newView}
 use Rattle.book.specs.Registering.{registerOf, toldIn}
@@ -26,7 +27,7 @@ use Rattle.book.specs.Walk.{offsetBy, moveOf, walkFor, walkOf, stepsOf}
 use Rattle.columns.specs.Text.{fixed, digitsBy, digits, priced, timed}
 use Rattle.columns.specs.Columns.{rendered}
 use Rattle.page.specs.Printing.{hasNoLine, laid, lineBy, lineOf}
-use Rattle.page.specs.Printout.{passedText}
+use Rattle.page.specs.Printout.{passedText, endText, quoteText, closing}
 use Rattle.page.specs.Laying.{layFrom, layOf}
 use Rattle.demands.specs.Examples.{name, scale, viewABC}
 use Rattle.demands.specs.Messages.{index, buy, add, delete, clear}
@@ -123,7 +124,16 @@ pub given-10 : Answered (stepsOf viewABC adds) (add 65 65 buy 1234500 200) 10
 unfolding value littleEndian shapeOf firstBad faultOf reachBy reachOf readBy readBody readSized readShape readTyped readReached readOf firstWhere tabulate insert remove look placeOf foundIn vacancyOf applyTo dealTo nameBad registering.registered ruled enacted meeting actOn meant stepOf moveOf stepsOf
 given-10 = refl
 
--- ---- a line, with ABC registered or not
+-- ---- a run
+pub record ByRun : Type 0 where
+  pub run-1 : walkOf one 0 .answer ≡ 1
+  pub run-2 : walkOf small 0 .answer ≡ 2
+
+pub by-run : ByRun
+unfolding value littleEndian reachBy reachOf walkFor walkOf
+by-run = record { run-1 = refl; run-2 = refl }
+
+-- ---- a line, with ABC registered or not, a laying and the end
 abbrev bought : (side : ℕ) → Message
 bought side = Message.Add (record { nanos = 125; index = index; number = 1 }) 1001 1234500 200 side
 
@@ -141,7 +151,9 @@ pub record ByPage : Type 0 where
   pub lay-1 : layOf 34200 640 viewABC one 0 0 .answer ≡ 1
   pub lay-2 : layOf 34200 640 viewABC small 0 0 .answer ≡ 2
   pub lay-15 : layOf 34200 639 viewABC one 0 0 .answer ≡ 15
+  pub end-0 : laid (closing viewABC index 1) (replicate 10 0) .outcome ≡ done 10
+  pub end-15 : laid (closing viewABC index 1) (replicate 9 0) .outcome ≡ refused 15
 
 pub by-page : ByPage
-unfolding value littleEndian shapeOf firstBad faultOf faultIn reachBy reachOf readBy readBody readSized readShape readTyped readReached readOf firstWhere insert remove look placeOf foundIn vacancyOf applyTo dealTo nameBad registering.registered registering.toldOf ruled enacted meeting actOn meant stepOf toldIn paddedName tabulate rendered fixed digitsBy digits priced timed hasNoLine laid lineBy lineOf passedText layFrom layOf walkFor walkOf
-by-page = record { line-0 = refl; line-3 = refl; line-4 = refl; line-4-at = refl; line-5 = refl; line-14 = refl; line-15 = refl; lay-1 = refl; lay-2 = refl; lay-15 = refl }
+unfolding value littleEndian shapeOf firstBad faultOf faultIn reachBy reachOf readBy readBody readSized readShape readTyped readReached readOf firstWhere insert remove look placeOf foundIn vacancyOf applyTo dealTo nameBad registering.registered registering.toldOf ruled enacted meeting actOn meant stepOf toldIn paddedName tabulate rendered fixed digitsBy digits priced timed hasNoLine laid lineBy lineOf passedText layFrom layOf walkFor walkOf closing endText quoteText quoteOf levelOf fold sumBy
+by-page = record { line-0 = refl; line-3 = refl; line-4 = refl; line-4-at = refl; line-5 = refl; line-14 = refl; line-15 = refl; lay-1 = refl; lay-2 = refl; lay-15 = refl; end-0 = refl; end-15 = refl }

@@ -3,7 +3,7 @@
 // | Of | Statement | Theorem |
 // |---|---|---|
 // | demand 1: the numbers of each call, the offset of a bad field, what a refusal leaves, how far an answer moves, the same every time | specs/Demand1 | demand-1-holds |
-// | that every number of demand 1 is given | proofs/EveryNumber | by-wire, by-book, by-message, given-10 |
+// | that every number of demand 1 is given | proofs/EveryNumber | by-wire, by-book, by-message, given-10, by-run, by-page |
 // | demand 2: levels, effects, isolation, case D's rule, executions at the price of the order; round trips | specs/Demand2 | demand-2-holds, round-trips |
 // | demand 3: over views; by any calls; from bytes | specs/Demand3 | demand-3-over-views, demand-3-holds, demand-3-from-bytes |
 // | demand 3 clause by clause, in the customer's order | specs/Demand3 | nothing-lost, nothing-lost-quotes-the-book, after-a-loss-as-just-before, then-refused-until-a-clear, from-that-clear-on, answered-0-then-7-then-8 |
