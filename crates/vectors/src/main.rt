@@ -14,6 +14,7 @@ use shown::print_message;
 use shown::print_number;
 use shown::print_offset;
 use wire::Answer;
+use wire::Fault;
 use wire::Reach;
 ghost use mathlib.Core.Path.{_≡_};
 ghost use Prim.Native.Nat.{_≤_};
@@ -85,6 +86,16 @@ fn write_made(c: &[u8], out: &mut [u8]) {
     print_number(wire::count_of_written(w) as u64);
     print_bytes(out);
     print_offset(wire::offset_of_written(w));
+    if offset_told(wire::bad_field(m)) != wire::offset_of_written(w) {
+        io::write_all(STDOUT_FILENO, b"!");
+    }
+}
+
+fn offset_told(f: Fault) -> usize {
+    match f {
+        Fault::Nothing => 0,
+        Fault::At(n) => n,
+    }
 }
 
 // Bytes that a write should not touch show as aa.
