@@ -35,7 +35,7 @@ pub fn line_text(
     if !matches!(message.body, Body::Add { .. } | Body::Cross { .. }) {
         return Err(Refusal::Type);
     }
-    message.check()?;
+    message.check(reader.market())?;
     let symbol = reader.symbol(message.index).ok_or(Refusal::Symbol)?;
     if second > LAST_SECOND {
         return Err(Refusal::Second);

@@ -7,7 +7,7 @@ use crate::book::Level;
 use crate::cursor::{hex, Cursor};
 use crate::line::line;
 use crate::reader::Reader;
-use crate::wire::{read, write, Message};
+use crate::wire::{read, write, Market, Message};
 
 /// A longer file is refused.
 pub(crate) const LARGEST_FILE: usize = 1_048_576;
@@ -21,7 +21,7 @@ pub fn probe(calls: &[u8]) -> String {
         text.push_str("?\n");
         return text;
     }
-    let mut reader = Reader::new();
+    let mut reader = Reader::new(Market::Nyse);
     let mut cursor = Cursor::new(calls);
     while !cursor.is_empty() {
         let Some(line) = call(&mut reader, &mut cursor) else {
@@ -37,8 +37,12 @@ pub fn probe(calls: &[u8]) -> String {
 fn call(reader: &mut Reader, cursor: &mut Cursor) -> Option<String> {
     match cursor.u8()? {
         b'N' => {
-            *reader = Reader::new();
+            *reader = Reader::new(Market::Nyse);
             Some("N".to_string())
+        }
+        b'M' => {
+            *reader = Reader::new(Market::of_id(cursor.u8()?)?);
+            Some("M".to_string())
         }
         b'G' => {
             let index = cursor.u32()?;
@@ -60,7 +64,7 @@ fn call(reader: &mut Reader, cursor: &mut Cursor) -> Option<String> {
         }
         b'D' => {
             let at = usize::from(cursor.u16()?);
-            let (next, message) = read(cursor.counted()?, at);
+            let (next, message) = read(reader.market(), cursor.counted()?, at);
             Some(position_line('D', next, &message))
         }
         b'Q' => Some(quote_line(reader, cursor.u32()?)),
@@ -68,8 +72,8 @@ fn call(reader: &mut Reader, cursor: &mut Cursor) -> Option<String> {
         b'W' => {
             let nanoseconds = cursor.u32()?;
             let mut buffer = buffer(cursor)?;
-            let message = timed(cursor.counted()?, nanoseconds);
-            let done = message.map(|message| write(&message, &mut buffer));
+            let message = timed(reader.market(), cursor.counted()?, nanoseconds);
+            let done = message.map(|message| write(reader.market(), &message, &mut buffer));
             Some(output_line('W', done, &buffer))
         }
         b'L' => {
@@ -77,7 +81,7 @@ fn call(reader: &mut Reader, cursor: &mut Cursor) -> Option<String> {
             let sequence = cursor.u32()?;
             let second = cursor.u32()?;
             let mut buffer = buffer(cursor)?;
-            let message = timed(cursor.counted()?, nanoseconds);
+            let message = timed(reader.market(), cursor.counted()?, nanoseconds);
             let done = message.map(|message| line(reader, &message, sequence, second, &mut buffer));
             Some(output_line('L', done, &buffer))
         }
@@ -92,8 +96,8 @@ fn buffer(cursor: &mut Cursor) -> Option<Vec<u8>> {
 }
 
 /// The message at the start of these bytes, with other nanoseconds.
-fn timed(bytes: &[u8], nanoseconds: u32) -> Result<Message, Refusal> {
-    read(bytes, 0).1.map(|message| Message {
+fn timed(market: Market, bytes: &[u8], nanoseconds: u32) -> Result<Message, Refusal> {
+    read(market, bytes, 0).1.map(|message| Message {
         nanoseconds,
         ..message
     })

@@ -1,5 +1,5 @@
 //! The small program: document 01, "What the bureau's reader does", and the offset of a bad field
-//! in its refusals: request M-111.
+//! in its refusals: request M-111. Its market is NYSE: request M-107.
 
 use std::io::{self, Read, Write};
 
@@ -7,7 +7,7 @@ use crate::answer::Refusal;
 use crate::book::Level;
 use crate::line::{line_text, price_text};
 use crate::reader::Reader;
-use crate::wire::{Body, Message};
+use crate::wire::{Body, Market, Message};
 
 /// A part of the file, what was left of the part before it counted in. The largest message,
 /// 65,535 bytes, fits.
@@ -44,7 +44,7 @@ pub fn painterend(input: &mut impl Read, output: &mut impl Write) -> io::Result<
 
 /// The state that every file starts with.
 pub fn new_reader() -> Reader {
-    let mut reader = Reader::new();
+    let mut reader = Reader::new(Market::Nyse);
     reader
         .register(INDEX, SCALE, NAME)
         .expect("the symbol is a good one and the first");

@@ -3,7 +3,7 @@
 use crate::answer::Refusal;
 use crate::book::Quote;
 use crate::symbol::Symbol;
-use crate::wire::{read, Message};
+use crate::wire::{read, Market, Message};
 
 /// A reader has room for this many symbols.
 pub(crate) const SYMBOLS: usize = 8;
@@ -12,14 +12,23 @@ const LARGEST_SCALE: u8 = 6;
 /// The longest name.
 const LONGEST_NAME: usize = 11;
 
-#[derive(Clone, Default)]
+#[derive(Clone)]
 pub struct Reader {
+    market: Market,
     symbols: Vec<Symbol>,
 }
 
 impl Reader {
-    pub fn new() -> Reader {
-        Reader::default()
+    /// A new state. It stays its market's: request M-107.
+    pub fn new(market: Market) -> Reader {
+        Reader {
+            market,
+            symbols: Vec::new(),
+        }
+    }
+
+    pub fn market(&self) -> Market {
+        self.market
     }
 
     /// The checks: scale and name (13), index (11), places (12).
@@ -44,7 +53,7 @@ impl Reader {
     /// Applies the message at `at`, and hands back the position of the next one with the message
     /// that was done.
     pub fn step(&mut self, stream: &[u8], at: usize) -> (usize, Result<Message, Refusal>) {
-        let (next, message) = read(stream, at);
+        let (next, message) = read(self.market, stream, at);
         let done = message.and_then(|message| self.apply(&message).map(|()| message));
         (next, done)
     }

@@ -6,7 +6,7 @@ use second::line::line;
 use second::make::messages::*;
 use second::program::{new_reader, painterend};
 use second::reader::Reader;
-use second::wire::Message;
+use second::wire::{Market, Message};
 
 fn answer(reader: &mut Reader, message: Message) -> Result<(), Refusal> {
     let bytes = feed(&[message]);
@@ -48,14 +48,20 @@ fn after_f() -> Reader {
 
 #[test]
 fn a_empty_input_answers_1() {
-    assert_eq!(Reader::new().step(&[], 0), (0, Err(Refusal::Cut)));
+    assert_eq!(
+        Reader::new(Market::Nyse).step(&[], 0),
+        (0, Err(Refusal::Cut))
+    );
     assert_eq!(printed(&[]), "E,1\nQ,,,,\n");
 }
 
 #[test]
 fn b_msg_size_3_answers_2() {
     let bytes = [3, 0, 100, 0];
-    assert_eq!(Reader::new().step(&bytes, 0), (0, Err(Refusal::Size)));
+    assert_eq!(
+        Reader::new(Market::Nyse).step(&bytes, 0),
+        (0, Err(Refusal::Size))
+    );
     assert_eq!(printed(&bytes), "E,2\nQ,,,,\n");
 }
 

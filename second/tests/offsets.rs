@@ -1,11 +1,11 @@
-//! Which bad field a refusal names: request M-111. Every number expected here was copied by hand
+//! Which bad field a refusal names: requests M-111 and M-107. Every number expected here was copied by hand
 //! from document 01's table; none is asked of the program.
 
 use second::answer::Refusal;
 use second::line::line;
 use second::make::bad_fields::{spoiled, Bad};
 use second::program::new_reader;
-use second::wire::{read, write};
+use second::wire::{read, write, Market};
 
 /// A field's good bytes, its bad ones, and how to put a bad value into a typed message.
 type Values = (&'static [u8], &'static [u8], Bad);
@@ -20,16 +20,44 @@ const TIME: Values = (
 const VOLUME: Values = (&[0, 0, 0, 1], &[0, 0, 0, 0], Bad::Volume);
 const FLAG: Values = (&[1], &[2], Bad::Flag(2));
 const SIDE: Values = (b"S", b"s", Bad::Side(b's'));
+const FIRST: Values = (b"@", b"C", Bad::Condition(0, b'C'));
+const SECOND: Values = (b"6", b"7", Bad::Condition(1, b'7'));
+const THIRD: Values = (b" ", b"\0", Bad::Condition(2, 0));
+const FOURTH: Values = (b"I", b"l", Bad::Condition(3, b'l'));
 
 /// Type, size, and the offset of each field that has a rule.
 const TABLE: [(u16, usize, &[Field]); 13] = [
     (100, 39, &[(4, TIME), (28, VOLUME), (32, SIDE)]),
     (101, 35, &[(4, TIME), (28, VOLUME), (32, FLAG), (33, SIDE)]),
     (102, 25, &[(4, TIME)]),
-    (103, 42, &[(4, TIME), (32, VOLUME), (36, FLAG)]),
+    (
+        103,
+        42,
+        &[
+            (4, TIME),
+            (32, VOLUME),
+            (36, FLAG),
+            (38, FIRST),
+            (39, SECOND),
+            (40, THIRD),
+            (41, FOURTH),
+        ],
+    ),
     (104, 42, &[(4, TIME), (36, VOLUME), (40, SIDE)]),
     (105, 73, &[(8, TIME)]),
-    (110, 33, &[(4, TIME), (24, VOLUME), (28, FLAG)]),
+    (
+        110,
+        33,
+        &[
+            (4, TIME),
+            (24, VOLUME),
+            (28, FLAG),
+            (29, FIRST),
+            (30, SECOND),
+            (31, THIRD),
+            (32, FOURTH),
+        ],
+    ),
     (111, 29, &[(4, TIME)]),
     (112, 20, &[(4, TIME)]),
     (113, 24, &[(4, TIME)]),
@@ -38,7 +66,7 @@ const TABLE: [(u16, usize, &[Field]); 13] = [
     (34, 46, &[(8, TIME)]),
 ];
 
-/// A message with good values where there is a rule, and bytes that would be bad everywhere else.
+/// A message of NYSE with good values where there is a rule, and bytes that would be bad everywhere else.
 fn good(kind: u16, size: usize, fields: &[Field]) -> Vec<u8> {
     let mut bytes = vec![0xFF; size];
     put(&mut bytes, 0, &(size as u16).to_le_bytes());
@@ -82,7 +110,7 @@ fn reading_and_stepping_name_the_lowest_offset() {
             put(&mut bytes, *offset, bad);
         }
         let expected = (bytes.len(), Err(refused(set)));
-        assert_eq!(read(&bytes, 0), expected, "{bytes:02x?}");
+        assert_eq!(read(Market::Nyse, &bytes, 0), expected, "{bytes:02x?}");
         assert_eq!(new_reader().step(&bytes, 0), expected, "{bytes:02x?}");
     });
 }
@@ -90,11 +118,11 @@ fn reading_and_stepping_name_the_lowest_offset() {
 #[test]
 fn writing_and_the_line_name_the_lowest_offset() {
     for_every_set(|good, set| {
-        let message = read(good, 0).1.expect("every field is good");
+        let message = read(Market::Nyse, good, 0).1.expect("every field is good");
         let values: Vec<Bad> = set.iter().map(|(_, (_, _, bad))| *bad).collect();
         let message = spoiled(message, &values);
         let mut out = [0xAA; 128];
-        assert_eq!(write(&message, &mut out), Err(refused(set)));
+        assert_eq!(write(Market::Nyse, &message, &mut out), Err(refused(set)));
         // A line's type is checked before its fields, and they before the symbol and the second.
         let expected = match good[2] {
             100 | 111 => refused(set),

@@ -25,8 +25,7 @@ use Rattle.symbols.specs.Turns.{restarted, turnAnswer, turnAt}
 use Rattle.symbols.specs.Promises.{Alters}
 use Rattle.symbols.specs.declared.Symbols.{Symbols}
 use Rattle.symbols.proofs.Entries.{entry-past}
-use Rattle.symbols.specs.Registering.{Next}
-use Rattle.book.specs.State.{Symbol, View, entryAt, ordersAt, tradesAt, symbolOf, view, entryOf, Wf}
+use Rattle.book.specs.State.{Symbol, View, withPlaces, Next, entryAt, ordersAt, tradesAt, symbolOf, view, placeIn, Wf}
 use Rattle.orders.specs.Rules.{applyTo}
 use Rattle.book.specs.Step.{changeOf, dealOf, madeStale, enacted, meeting, refusing, put, actOn, meant, stepOn}
 use Rattle.book.specs.Promises.{unchanging, Obeys, Steps, Awaits, MakesStale, Settles}
@@ -36,39 +35,41 @@ use Rattle.orders.specs.declared.Orders.{Orders}
 use Rattle.book.specs.declared.Book.{Book}
 use Rattle.book.specs.declared.Done.{Done}
 use Rattle.book.specs.declared.acts.Effect.{Effect}
-use Rattle.book.proofs.Views.{seen, place-is, view-at, symbol-missing, SymbolAt, symbol-at}
+use Rattle.book.proofs.Views.{same-market, seen, place-is, view-at, symbol-missing, SymbolAt, symbol-at}
 use Rattle.book.proofs.Stores.{stales, clears}
 
 -- ---- promises
 -- a refusal that hands the state back
-pub refuses : (b : Book) (x : Next Symbol) (a : ℕ) → x ≡ refusing (view b) a → Steps b x (record { book = b; answer = a })
+pub refuses : (b : Book) (x : Next) (a : ℕ) → x ≡ refusing (view b) a → Steps b x (record { book = b; answer = a })
 refuses b x a e = record {
+  market = refl;
   kept = λ u. refl;
-  obeys = λ w. record { wf = w; next-view = sym (ap (λ (y : Next Symbol). y .view) e); answer = sym (ap (λ (y : Next Symbol). y .answer) e) };
+  obeys = λ w. record { wf = w; next-view = sym (ap (λ (y : Next). y .view) e); answer = sym (ap (λ (y : Next). y .answer) e) };
 }
 
 -- an answer that changes something
-pub changes : (b : Book) (x y : Next Symbol) (r : Done) → x ≡ y → unchanging (r .answer) ≡ false → (Wf b → Obeys y (r .book) (r .answer)) → Steps b x r
-changes b x y r e n p = record {
+pub changes : (b : Book) (x y : Next) (r : Done) → x ≡ y → view (r .book) .market ≡ view b .market → unchanging (r .answer) ≡ false → (Wf b → Obeys y (r .book) (r .answer)) → Steps b x r
+changes b x y r e same n p = record {
+  market = same;
   kept = λ u. absurd (let z : _≡_ {A = Bool} true false = sym u ∙ n in let o : _≡_ {A = ℕ} 0 1 = cc in omega arith);
   obeys = λ w. rw e (p w);
 }
 
 -- ---- the symbol of a message
 module _ (b : Book) (a : Act Effect) where
-  act-missing : symbols ≤ placeOf entryOf (indexOf a) (view b) → actOn (view b) a ≡ refusing (view b) 5
+  act-missing : symbols ≤ placeIn (indexOf a) (view b) → actOn (view b) a ≡ refusing (view b) 5
   unfolding actOn
   act-missing h = rw (symbol-missing b (indexOf a) h)
 
-  act-at : (k : ℕ) → k ≡ placeOf entryOf (indexOf a) (view b) → (r : SymbolAt b (indexOf a) k) → actOn (view b) a ≡ put (view b) k (meeting (symbolOf (r .entry) (ordersAt b k) (tradesAt b k)) a)
+  act-at : (k : ℕ) → k ≡ placeIn (indexOf a) (view b) → (r : SymbolAt b (indexOf a) k) → actOn (view b) a ≡ put (view b) k (meeting (symbolOf (r .entry) (ordersAt b k) (tradesAt b k)) a)
   unfolding actOn
   act-at k e r = rw (r .there, ← e)
 
 -- a symbol that stays as it was leaves the view as it was
 put-same : (b : Book) (k a : ℕ) (e : Entry) → k < symbols → entryAt b k ≡ some e → put (view b) k (record { symbol = symbolOf e (ordersAt b k) (tradesAt b k); answer = a }) ≡ refusing (view b) a
 put-same b k a e h at =
-    let there : getD (view b) k none ≡ some (symbolOf e (ordersAt b k) (tradesAt b k)) = view-at b k h ∙ ap (λ (x : Option Entry). seen x (ordersAt b k) (tradesAt b k)) at in
-    ap (λ (v : View). refusing v a) (ap (set (view b) k) (sym there) ∙ set-getD (view b) k none)
+    let there : getD (view b .places) k none ≡ some (symbolOf e (ordersAt b k) (tradesAt b k)) = view-at b k h ∙ ap (λ (x : Option Entry). seen x (ordersAt b k) (tradesAt b k)) at in
+    ap (λ (ps : List (Option Symbol)). refusing (withPlaces (view b) ps) a) (ap (set (view b .places) k) (sym there) ∙ set-getD (view b .places) k none)
 
 -- ---- the turn of a number
 module _ (x : Fit (List Order)) where
@@ -114,7 +115,7 @@ pub record Asked (b : Book) (index n k t : ℕ) : Type 0 where
   pub turn : t ≡ turnAt (entryAt b k) n
 
 module _ (b : Book) (index n : ℕ) (e : Effect) (k t : ℕ) (asked : Asked b index n k t) where
-  is : k ≡ placeOf entryOf index (view b)
+  is : k ≡ placeIn index (view b)
   is = asked .place ∙ place-is b index
 
   -- place k has a symbol where the turn is not 5
@@ -131,7 +132,7 @@ module _ (b : Book) (index n : ℕ) (e : Effect) (k t : ℕ) (asked : Asked b in
     abbrev symbol : Symbol
     symbol = symbolOf (at-k .entry) (ordersAt b k) (tradesAt b k)
 
-    abbrev comes-to : Ruling (List Order) → Next Symbol
+    abbrev comes-to : Ruling (List Order) → Next
     comes-to r = put (view b) k (enacted symbol (dealOf e) r)
 
     met : actOn (view b) (numbered index n e) ≡ comes-to (ruled (at-k .entry .standing .stale) (ltb n (at-k .entry .standing .expected)) (ltb (at-k .entry .standing .expected) n) (applyTo (ordersAt b k) (changeOf e)))
@@ -160,7 +161,7 @@ module _ (b : Book) (index n : ℕ) (e : Effect) (k t : ℕ) (asked : Asked b in
   unfolding among
   meeting-above r z s =
       let h = within (λ five. omega (arith, z, five)) in
-      changes b _ _ r (meet-stale h z) (ap unchanging (s .answer)) (λ w. rw (s .answer) (stales b k h (at-k h .entry) (at-k h .at) w 7 r s))
+      changes b _ _ r (meet-stale h z) (same-market b (r .book) (s .market)) (ap unchanging (s .answer)) (λ w. rw (s .answer) (stales b k h (at-k h .entry) (at-k h .at) w 7 r s))
 
   -- 5, 6, 8: nothing changes
   pub meeting-away : t ≢ 7 → t ≢ 0 → Steps b (actOn (view b) (numbered index n e)) (record { book = b; answer = t })
@@ -177,22 +178,22 @@ module _ (b : Book) (index n : ℕ) (e : Effect) (k t : ℕ) (asked : Asked b in
     awaits h = record { place = in-range; entry = at-k in-range .entry; there = at-k in-range .at; expected = rw (turn-number (at-k in-range .entry .standing .stale) n (at-k in-range .entry .standing .expected) (sym (turned in-range) ∙ z)) h }
 
     pub meeting-turn : (r : Done) → Settles b k e r → Steps b (actOn (view b) (numbered index n e)) r
-    meeting-turn r s = changes b _ _ r (meet-in in-range z) (s .changes) (s .obeys (at-k in-range .entry) (at-k in-range .at))
+    meeting-turn r s = changes b _ _ r (meet-in in-range z) (s .market) (s .changes) (s .obeys (at-k in-range .entry) (at-k in-range .at))
 
 -- ---- a clear, by the place of its symbol
 module _ (b : Book) (index next k : ℕ) (place : k ≡ placeOf itself index (entries (b .symbols))) where
-  cleared-at : k ≡ placeOf entryOf index (view b)
+  cleared-at : k ≡ placeIn index (view b)
   cleared-at = place ∙ place-is b index
 
   pub clears-nobody : symbols ≤ k → Steps b (actOn (view b) (clearing index next)) (record { book = b; answer = 5 })
   clears-nobody h = refuses b _ 5 (act-missing b (clearing index next) (rw cleared-at at h))
 
   pub clears-symbol : k < symbols → (s : Symbols) → Alters (b .symbols) k (restarted next) s → (os : Orders) → Clears (b .orders) k os
-      → Steps b (actOn (view b) (clearing index next)) (record { book = record { symbols = s; orders = os; trades = b .trades }; answer = 0 })
+      → Steps b (actOn (view b) (clearing index next)) (record { book = record { symbols = s; orders = os; trades = b .trades; market = b .market }; answer = 0 })
   unfolding among meeting
   clears-symbol h s a os c =
       let f = symbol-at b index k cleared-at h in
-      changes b _ _ _ (act-at b (clearing index next) k cleared-at f) refl (λ w. clears b k h (f .entry) (f .at) w next s a os c)
+      changes b _ _ _ (act-at b (clearing index next) k cleared-at f) (same-market b _ refl) refl (λ w. clears b k h (f .entry) (f .at) w next s a os c)
 
 -- ---- what reading answered
 pub refused-read : (v : View) (a : Answer) → OneOf (1 ∷ 2 ∷ 3 ∷ 4 ∷ []) (tagOf answers.the-type a) → stepOn v (answeredAs a .outcome) ≡ refusing v (numberOf (answeredAs a .outcome))

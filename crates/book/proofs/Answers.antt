@@ -14,13 +14,12 @@ use Rattle.wire.specs.Reading.{Read, reachOf, readOf}
 use Rattle.wire.specs.declared.Message.{Message}
 use Rattle.wire.proofs.Refusing.{reached-refused}
 use Rattle.places.specs.Places.{among}
-use Rattle.symbols.specs.State.{placeOf}
 use Rattle.symbols.specs.Registering.{toldOf}
 use Rattle.orders.specs.Rules.{applyTo}
 use Rattle.orders.specs.declared.Order.{Order}
 use Rattle.record.specs.declared.Deal.{Deal}
-use Rattle.book.specs.State.{Symbol, View, entryOf, symbolIn}
-use Rattle.book.specs.Step.{changeOf, dealOf, enacted, meeting, actAt, actOn, meant, stepOn, stepOf}
+use Rattle.book.specs.State.{Symbol, View, entryOf, placeIn, symbolIn}
+use Rattle.book.specs.Step.{changeOf, dealOf, enacted, meeting, actAt, actOn, meant, stepOn, stepOf, stepIn}
 use Rattle.book.specs.Registering.{toldIn}
 use Rattle.book.specs.Quote.{noQuote, quotedIf, quoted, quoteOf, volumeIn, volumeOf}
 use Rattle.book.specs.declared.acts.Effect.{Effect}
@@ -54,7 +53,7 @@ module _ (P : ℕ → Type 0) (each : Acts P) where
   unfolding actOn
   act-answers v a = go (symbolIn (indexOf a) v)
     where
-      go : (x : Option Symbol) → P (actAt v (placeOf entryOf (indexOf a) v) x a .answer)
+      go : (x : Option Symbol) → P (actAt v (placeIn (indexOf a) v) x a .answer)
       go none = each .symbol
       go (some s) = meeting-answers s a
 
@@ -65,9 +64,9 @@ pub record Each (P : ℕ → Type 0) : Type 0 where
   pub type : P 3
   pub field : P 4
 
-pub step-answers : (P : ℕ → Type 0) → Each P → (v : View) (s : List ℕ) (n : ℕ) → reachOf s ≡ done n → P (stepOf v (readOf (take n s)) .answer)
+pub step-answers : (P : ℕ → Type 0) → Each P → (v : View) (s : List ℕ) (n : ℕ) → reachOf s ≡ done n → P (stepIn v (take n s) .answer)
 unfolding stepOf
-step-answers P each v s n e = go (readOf (take n s) .outcome) (reached-refused P (each .size) (each .type) (each .field) s n e)
+step-answers P each v s n e = go (readOf (v .market) (take n s) .outcome) (reached-refused P (each .size) (each .type) (each .field) (v .market) s n e)
   where
     go : (x : Outcome Message) → ((k : ℕ) → x ≡ refused k → P k) → P (stepOn v x .answer)
     go (done m) h = act-answers P (each .acts) v (meant m)

@@ -13,7 +13,7 @@ use Rattle.symbols.specs.declared.registering.Listing.{Listing}
 use Rattle.symbols.proofs.Entries.{length-entries}
 use Rattle.symbols.proofs.Finding.{missing}
 use Rattle.record.specs.Rules.{sharesOf}
-use Rattle.book.specs.State.{entryAt, ordersAt, tradesAt, view, entryOf, symbolIn}
+use Rattle.book.specs.State.{entryAt, ordersAt, tradesAt, view, entryOf, placeIn, symbolIn}
 use Rattle.book.specs.Registering.{toldIn}
 use Rattle.book.specs.Quote.{noQuote, quotedIf, quoted, quoteOf, volumeIn, volumeOf}
 use Rattle.book.specs.declared.Book.{Book}
@@ -21,7 +21,7 @@ use Rattle.book.proofs.Views.{place-is, symbol-missing, symbol-at}
 
 -- the symbols were asked for the place of an index
 module _ (b : Book) (index k : ℕ) (place : k ≡ placeOf itself index (entries (b .symbols))) where
-  is : k ≡ placeOf entryOf index (view b)
+  is : k ≡ placeIn index (view b)
   is = place ∙ place-is b index
 
   module _ (h : symbols ≤ k) where

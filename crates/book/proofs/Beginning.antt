@@ -4,6 +4,7 @@ use mathlib.Core.Option.{Option, none}
 use mathlib.Core.Path.{_≡_, refl, ap}
 use Prim.Native.Nat.{ℕ}
 use lib.ListN.{getD}
+use Rattle.wire.specs.declared.markets.Market.{Market}
 use Rattle.places.specs.Places.{symbols, tabulate, firstWhere}
 use Rattle.symbols.specs.State.{Entry, placeOf, foundIn, nobody}
 use Rattle.symbols.proofs.Entries.{nobody-sound, nobody-there}
@@ -17,22 +18,23 @@ use Rattle.book.specs.State.{view, symbolIn, newView, Fresh}
 use Rattle.book.specs.declared.Book.{Book}
 use Rattle.book.proofs.Views.{seen}
 
-abbrev new : Book
-new = record { symbols = nobody; orders = noOrders; trades = noTrades }
+abbrev new : Market → Book
+new m = record { symbols = nobody; orders = noOrders; trades = noTrades; market = m }
 
-nothing-seen : view new ≡ newView
+nothing-seen : (m : Market) → view (new m) ≡ newView m
 unfolding view tabulate
-nothing-seen = ap (λ (l : List (Option Entry)). tabulate symbols (λ k. seen (getD l k none) (liveAt noOrders k) (keptAt noTrades k))) nobody-there
+nothing-seen m = ap (λ (l : List (Option Entry)). record { market = m; places = tabulate symbols (λ k. seen (getD l k none) (liveAt noOrders k) (keptAt noTrades k)) }) nobody-there
 
-pub fresh : Fresh new
-fresh = record {
+pub fresh : (m : Market) → Fresh m (new m)
+fresh m = record {
+  market = refl;
   names = refl;
   orders = refl;
   trades = refl;
   wf = record { names = nobody-sound; orders = no-orders-sound; trades = no-trades-sound; no-orders = λ k h n. orders-held.new-has-none k; no-trades = λ k h n. record-held.new-has-none k };
-  new-view = nothing-seen;
+  new-view = nothing-seen m;
 }
 
-pub new-unregistered : (b : Book) → Fresh b → (index : ℕ) → symbolIn index (view b) ≡ none
+pub new-unregistered : (m : Market) (b : Book) → Fresh m b → (index : ℕ) → symbolIn index (view b) ≡ none
 unfolding foundIn placeOf firstWhere
-new-unregistered b f index = rw (f .new-view)
+new-unregistered m b f index = rw (f .new-view)

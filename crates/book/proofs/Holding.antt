@@ -7,7 +7,6 @@ use Prim.Native.Nat.{ℕ, _<_, _≤_}
 use lib.Dec.{eqb}
 use lib.ListN.{length}
 use Rattle.places.specs.Places.{symbols, count}
-use Rattle.symbols.specs.State.{placeOf}
 use Rattle.symbols.proofs.Finding.{place-within}
 use Rattle.orders.specs.State.{ordersEach, orderNumber}
 use Rattle.orders.specs.declared.Order.{Order}
@@ -16,35 +15,35 @@ use Rattle.orders.proofs.Holding.{live-within}
 use Rattle.record.specs.State.{tradesEach, tradeNumber}
 use Rattle.record.proofs.Holding as record-room
 use Rattle.record.proofs.Holding.{kept-within}
-use Rattle.book.specs.State.{Symbol, symbolOf, ordersAt, tradesAt, view, entryOf, symbolIn, Wf}
+use Rattle.book.specs.State.{Symbol, symbolOf, ordersAt, tradesAt, view, entryOf, placeIn, symbolIn, Wf}
 use Rattle.book.specs.declared.Book.{Book}
 use Rattle.book.proofs.Views.{length-view, SymbolAt, symbol-at}
 
 module _ (b : Book) (index : ℕ) (s : Symbol) (e : symbolIn index (view b) ≡ some s) where
-  there : placeOf entryOf index (view b) < symbols
-  there = rw (length-view b) at (place-within entryOf (view b) index s e)
+  there : placeIn index (view b) < symbols
+  there = rw (length-view b) at (place-within entryOf (view b .places) index s e)
 
-  abbrev at-place : SymbolAt b index (placeOf entryOf index (view b))
-  at-place = symbol-at b index (placeOf entryOf index (view b)) refl there
+  abbrev at-place : SymbolAt b index (placeIn index (view b))
+  at-place = symbol-at b index (placeIn index (view b)) refl there
 
-  is : s ≡ symbolOf (at-place .entry) (ordersAt b (placeOf entryOf index (view b))) (tradesAt b (placeOf entryOf index (view b)))
-  is = let same : _≡_ {A = Option Symbol} (some s) (some (symbolOf (at-place .entry) (ordersAt b (placeOf entryOf index (view b))) (tradesAt b (placeOf entryOf index (view b))))) = sym e ∙ at-place .there in cc
+  is : s ≡ symbolOf (at-place .entry) (ordersAt b (placeIn index (view b))) (tradesAt b (placeIn index (view b)))
+  is = let same : _≡_ {A = Option Symbol} (some s) (some (symbolOf (at-place .entry) (ordersAt b (placeIn index (view b))) (tradesAt b (placeIn index (view b))))) = sym e ∙ at-place .there in cc
 
   -- a symbol holds no more live orders, and no more trades, than it has places for them
   pub orders-within : length (s .orders) ≤ ordersEach
-  orders-within = rw is (live-within (b .orders) (placeOf entryOf index (view b)))
+  orders-within = rw is (live-within (b .orders) (placeIn index (view b)))
 
   pub trades-within : length (s .trades) ≤ tradesEach
-  trades-within = rw is (kept-within (b .trades) (placeOf entryOf index (view b)))
+  trades-within = rw is (kept-within (b .trades) (placeIn index (view b)))
 
   -- and what it holds as live is live
   pub all-live : (o : Order) → List·Memᴰ o (s .orders) → o .live ≡ true
-  all-live o m = orders-room.all-live (b .orders) (placeOf entryOf index (view b)) o (subst (λ (t : Symbol). List·Memᴰ o (t .orders)) is m)
+  all-live o m = orders-room.all-live (b .orders) (placeIn index (view b)) o (subst (λ (t : Symbol). List·Memᴰ o (t .orders)) is m)
 
   module _ (w : Wf b) where
     -- at most one live order of a number, and one kept trade
     pub one-live : (n : ℕ) → count (λ o. eqb (orderNumber o) n) (s .orders) ≤ 1
-    one-live n = rw is (orders-room.one-live (b .orders) (placeOf entryOf index (view b)) (w .orders) there n)
+    one-live n = rw is (orders-room.one-live (b .orders) (placeIn index (view b)) (w .orders) there n)
 
     pub one-kept : (n : ℕ) → count (λ t. eqb (tradeNumber t) n) (s .trades) ≤ 1
-    one-kept n = rw is (record-room.one-kept (b .trades) (placeOf entryOf index (view b)) (w .trades) there n)
+    one-kept n = rw is (record-room.one-kept (b .trades) (placeIn index (view b)) (w .trades) there n)

@@ -8,9 +8,8 @@ use Rattle.feed.specs.Reader.{Ruling, unchanged, made-stale, applied, Act, clea
 use Rattle.wire.specs.Outcome.{Outcome, done, refused}
 use Rattle.wire.specs.Reading.{Read, reachOf, readOf}
 use Rattle.wire.specs.declared.Message.{Message}
-use Rattle.symbols.specs.State.{placeOf}
 use Rattle.symbols.proofs.Finding.{put-own, put-others}
-use Rattle.book.specs.State.{Symbol, View, view, entryOf, symbolIn, Wf}
+use Rattle.book.specs.State.{Symbol, View, view, entryOf, placeIn, symbolIn, Wf}
 use Rattle.book.specs.Step.{dealOf, enacted, meeting, actAt, actOn, meant, stepOn, stepOf}
 use Rattle.book.specs.Walk.{moveBy, moveOf, Moves}
 use Rattle.book.specs.declared.Book.{Book}
@@ -45,16 +44,16 @@ module _ (v : View) (a : Act Effect) where
 
   pub own-symbol : (s : Symbol) → symbolIn (indexOf a) v ≡ some s → symbolIn (indexOf a) (actOn v a .view) ≡ some (meeting s a .symbol)
   unfolding actOn
-  own-symbol s e = rw e (put-own entryOf v (indexOf a) s (meeting s a .symbol) e (meeting-keeps-name s a .index))
+  own-symbol s e = rw e (put-own entryOf (v .places) (indexOf a) s (meeting s a .symbol) e (meeting-keeps-name s a .index))
 
   -- a message for one symbol changes nothing kept for another
   pub own-symbol-only : (i : ℕ) → (i ≡ indexOf a → ⊥) → symbolIn i (actOn v a .view) ≡ symbolIn i v
   unfolding actOn
   own-symbol-only i ne = go (symbolIn (indexOf a) v) refl
     where
-      go : (x : Option Symbol) → symbolIn (indexOf a) v ≡ x → symbolIn i (actAt v (placeOf entryOf (indexOf a) v) (symbolIn (indexOf a) v) a .view) ≡ symbolIn i v
+      go : (x : Option Symbol) → symbolIn (indexOf a) v ≡ x → symbolIn i (actAt v (placeIn (indexOf a) v) (symbolIn (indexOf a) v) a .view) ≡ symbolIn i v
       go none e = rw e
-      go (some s) e = rw e (put-others entryOf v (indexOf a) s (meeting s a .symbol) e (meeting-keeps-name s a .index) i ne)
+      go (some s) e = rw e (put-others entryOf (v .places) (indexOf a) s (meeting s a .symbol) e (meeting-keeps-name s a .index) i ne)
 
 -- ---- what was read: a refusal touches nobody, a message its own symbol
 module _ (v : View) (d : Read) (i : ℕ) (other : (m : Message) → d .outcome ≡ done m → i ≡ indexOf (meant m) → ⊥) where
@@ -68,11 +67,11 @@ module _ (v : View) (d : Read) (i : ℕ) (other : (m : Message) → d .outcome �
 
 -- ---- a call on bytes
 pub apply-others : (b : Book) (s : List ℕ) (at : ℕ) (r : Moved) → Wf b → Moves b s at r → (i : ℕ)
-    → ((n : ℕ) (m : Message) → reachOf (drop at s) ≡ done n → readOf (take n (drop at s)) .outcome ≡ done m → i ≡ indexOf (meant m) → ⊥)
+    → ((n : ℕ) (m : Message) → reachOf (drop at s) ≡ done n → readOf (view b .market) (take n (drop at s)) .outcome ≡ done m → i ≡ indexOf (meant m) → ⊥)
     → symbolIn i (view (r .book)) ≡ symbolIn i (view b)
 unfolding moveOf
 apply-others b s at r w p i other = ap (symbolIn i) (p .obeys w .next-view) ∙ go (reachOf (drop at s)) refl
   where
     go : (x : Outcome ℕ) → reachOf (drop at s) ≡ x → symbolIn i (moveBy x (view b) s at .view) ≡ symbolIn i (view b)
-    go (done n) e = step-others (view b) (readOf (take n (drop at s))) i (λ m f. other n m e f)
+    go (done n) e = step-others (view b) (readOf (view b .market) (take n (drop at s))) i (λ m f. other n m e f)
     go (refused a) e = refl

@@ -9,7 +9,6 @@ use lib.Dec.{ltb}
 use lib.ListN.{length}
 use Rattle.feed.specs.Reader.{Fit, fits, misfit, no-room, ruled, numbered}
 use Rattle.places.specs.Places.{sumBy, insert, look}
-use Rattle.symbols.specs.State.{placeOf}
 use Rattle.orders.specs.State.{ordersEach, orderNumber}
 use Rattle.orders.specs.Rules.{applyTo, added, orderOf}
 use Rattle.orders.specs.Levels.{counts, sharesAt, levelOf, NoBetter, Attained, TakesOff}
@@ -20,7 +19,7 @@ use Rattle.orders.proofs.Sides.{shows, best-of-all, attained-of-all, add-level}
 use Rattle.orders.proofs.Executing.{takes-off}
 use Rattle.record.specs.declared.Deal.{Deal}
 use Rattle.book.specs.declared.acts.Effect.{Effect}
-use Rattle.book.specs.State.{Symbol, View, entryOf, symbolIn, liveOf, liveIn}
+use Rattle.book.specs.State.{Symbol, View, placeIn, symbolIn, liveOf, liveIn}
 use Rattle.book.specs.Step.{changeOf, dealOf, enacted, meeting, actAt, actOn}
 use Rattle.book.specs.Quote.{quotedIf, quoted, quoteOf, sideOf}
 use Rattle.book.proofs.Isolation.{own-symbol}
@@ -118,7 +117,7 @@ pub execution : (v : View) (index number n vol : ℕ) (deal : Deal) → ((s : Sy
 unfolding actOn
 execution v index number n vol deal live = go (symbolIn index v) refl
   where
-    go : (x : Option Symbol) → symbolIn index v ≡ x → actAt v (placeOf entryOf index v) x (numbered index number (Effect.Execute n vol deal)) .answer ≡ 0
+    go : (x : Option Symbol) → symbolIn index v ≡ x → actAt v (placeIn index v) x (numbered index number (Effect.Execute n vol deal)) .answer ≡ 0
         → TakesOff n vol (liveIn index v) (liveIn index (actOn v (numbered index number (Effect.Execute n vol deal)) .view))
     go none q z = absurd (omega (arith, z))
     go (some s) q z =

@@ -13,7 +13,7 @@ use Rattle.wire.specs.Reading.{Read, reachOf, readOf}
 use Rattle.wire.specs.declared.Message.{Message}
 use Rattle.book.specs.State.{Symbol, View, view, symbolIn, Wf}
 use Rattle.record.specs.Rules.{dealTo}
-use Rattle.book.specs.Step.{dealOf, enacted, meeting, actOn, meant, stepOn, stepOf}
+use Rattle.book.specs.Step.{dealOf, enacted, meeting, actOn, meant, stepOn, stepOf, stepIn}
 use Rattle.book.specs.Quote.{volumeIn, volumeOf}
 use Rattle.book.specs.Walk.{moveBy, moveOf, walkOf, stepsOf, runOf, Moves, Runs}
 use Rattle.book.specs.declared.Book.{Book}
@@ -71,7 +71,7 @@ module _ (index : ℕ) where
   steps-mark : (ms : List (List ℕ)) (v : View) → Lost v → Lost (stepsOf v ms)
   unfolding stepsOf
   steps-mark [] v e = e
-  steps-mark (m ∷ ms) v e = steps-mark ms (stepOf v (readOf m) .view) (step-mark v (readOf m) e)
+  steps-mark (m ∷ ms) v e = steps-mark ms (stepIn v m .view) (step-mark v (readOf (v .market) m) e)
 
   pub apply-mark : (b : Book) (s : List ℕ) (at : ℕ) (r : Moved) → Wf b → Moves b s at r → Lost (view b) → Lost (view (r .book))
   unfolding moveOf
@@ -79,7 +79,7 @@ module _ (index : ℕ) where
     where
       go : (x : Outcome ℕ) → Lost (moveBy x (view b) s at .view)
       go (refused a) = e
-      go (done n) = step-mark (view b) (readOf (take n (drop at s))) e
+      go (done n) = step-mark (view b) (readOf (view b .market) (take n (drop at s))) e
 
   pub run-mark : (b : Book) (s : List ℕ) (from : ℕ) (r : Ran) → Wf b → Runs b s from r → Lost (view b) → Lost (view (r .book))
   unfolding runOf

@@ -13,8 +13,8 @@ use Rattle.wire.specs.Outcome.{Outcome, done, refused}
 use Rattle.wire.specs.Reading.{Read}
 use Rattle.wire.specs.declared.Message.{Message}
 use Rattle.places.specs.Places.{among}
-use Rattle.symbols.specs.State.{placeOf, foundIn}
-use Rattle.book.specs.State.{Symbol, View, entryOf, symbolIn}
+use Rattle.symbols.specs.State.{foundIn}
+use Rattle.book.specs.State.{Symbol, View, withPlaces, placeIn, symbolIn}
 use Rattle.orders.specs.Rules.{applyTo}
 use Rattle.book.specs.Step.{changeOf, dealOf, madeStale, enacted, meeting, actAt, actOn, meant, stepOn, stepOf}
 use Rattle.book.specs.Promises.{unchanging, staling, BecomesStale}
@@ -44,9 +44,9 @@ pub act-unchanged : (v : View) (a : Act Effect) → unchanging (actOn v a .answe
 unfolding actOn foundIn
 act-unchanged v a = go (symbolIn (indexOf a) v) refl
   where
-    go : (x : Option Symbol) → symbolIn (indexOf a) v ≡ x → unchanging (actAt v (placeOf entryOf (indexOf a) v) x a .answer) ≡ true → actAt v (placeOf entryOf (indexOf a) v) x a .view ≡ v
+    go : (x : Option Symbol) → symbolIn (indexOf a) v ≡ x → unchanging (actAt v (placeIn (indexOf a) v) x a .answer) ≡ true → actAt v (placeIn (indexOf a) v) x a .view ≡ v
     go none q e = refl
-    go (some s) q e = ap (λ (t : Symbol). set v (placeOf entryOf (indexOf a) v) (some t)) (meeting-unchanged s a e) ∙ ap (set v (placeOf entryOf (indexOf a) v)) (sym q) ∙ set-getD v (placeOf entryOf (indexOf a) v) none
+    go (some s) q e = ap (withPlaces v) (ap (λ (t : Symbol). set (v .places) (placeIn (indexOf a) v) (some t)) (meeting-unchanged s a e) ∙ ap (set (v .places) (placeIn (indexOf a) v)) (sym q) ∙ set-getD (v .places) (placeIn (indexOf a) v) none)
 
 pub refused-view : (v : View) (d : Read) → unchanging (stepOf v d .answer) ≡ true → stepOf v d .view ≡ v
 unfolding stepOf
@@ -75,6 +75,6 @@ pub stale-view : (v : View) (a : Act Effect) → staling (actOn v a .answer) ≡
 unfolding actOn among
 stale-view v a = go (symbolIn (indexOf a) v) refl
   where
-    go : (x : Option Symbol) → symbolIn (indexOf a) v ≡ x → staling (actAt v (placeOf entryOf (indexOf a) v) x a .answer) ≡ true → BecomesStale v (indexOf a) (actAt v (placeOf entryOf (indexOf a) v) x a .view)
+    go : (x : Option Symbol) → symbolIn (indexOf a) v ≡ x → staling (actAt v (placeIn (indexOf a) v) x a .answer) ≡ true → BecomesStale v (indexOf a) (actAt v (placeIn (indexOf a) v) x a .view)
     go none q e = never e
-    go (some s) q e = record { symbol = s; there = q; next-view = ap (λ (t : Symbol). set v (placeOf entryOf (indexOf a) v) (some t)) (meeting-stale s a e) }
+    go (some s) q e = record { symbol = s; there = q; next-view = ap (λ (t : Symbol). withPlaces v (set (v .places) (placeIn (indexOf a) v) (some t))) (meeting-stale s a e) }

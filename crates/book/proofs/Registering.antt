@@ -17,15 +17,15 @@ use Rattle.symbols.specs.Promises.{Registers}
 use Rattle.symbols.specs.declared.registering.Entered.{Entered}
 use Rattle.symbols.proofs.Entries.{length-entries}
 use Rattle.symbols.proofs.Finding.{is-none}
-use Rattle.book.specs.State.{entryAt, ordersAt, tradesAt, symbolOf, view, Wf}
-use Rattle.book.specs.Registering.{started, registerOf}
+use Rattle.book.specs.State.{withPlaces, entryAt, ordersAt, tradesAt, symbolOf, view, Wf}
+use Rattle.book.specs.Registering.{started, placing, registerOf}
 use Rattle.book.specs.Promises.{unchanging, Obeys, Steps}
 use Rattle.book.specs.declared.Book.{Book}
-use Rattle.book.proofs.Views.{seen, place-is, vacancy-is, obeys-at}
+use Rattle.book.proofs.Views.{same-market, seen, place-is, vacancy-is, obeys-at}
 
 -- the state with other symbols
 abbrev pub with : Book → Entered → Book
-with b r = record { symbols = r .symbols; orders = b .orders; trades = b .trades }
+with b r = record { symbols = r .symbols; orders = b .orders; trades = b .trades; market = b .market }
 
 module _ (b : Book) (index : ℕ) (name : List ℕ) (scale : ℕ) (r : Entered) (p : Registers (b .symbols) index name scale r) where
   abbrev es : List (Option Entry)
@@ -36,7 +36,7 @@ module _ (b : Book) (index : ℕ) (name : List ℕ) (scale : ℕ) (r : Entered) 
 
   same-view : entries (r .symbols) ≡ es → view (with b r) ≡ view b
   unfolding view
-  same-view n = ap (λ (l : List (Option Entry)). tabulate symbols (λ k. seen (getD l k none) (ordersAt b k) (tradesAt b k))) n
+  same-view n = ap (λ (l : List (Option Entry)). record { market = b .market; places = tabulate symbols (λ k. seen (getD l k none) (ordersAt b k) (tradesAt b k)) }) n
 
   module _ (w : Wf b) where
     stays : (a : ℕ) → entries (r .symbols) ≡ es → r .answer ≡ a → Obeys (record { view = view b; answer = a }) (with b r) (r .answer)
@@ -58,9 +58,10 @@ module _ (b : Book) (index : ℕ) (name : List ℕ) (scale : ℕ) (r : Entered) 
       vacant-there = is-none _ (first-passes isVacant es none (rw (length-entries (b .symbols)) h))
 
       starts : entries (r .symbols) ≡ set es (vacancyOf es) (some newcomer) → r .answer ≡ 0
-          → Obeys (record { view = set (view b) (vacancyOf es) (some (started newcomer)); answer = 0 }) (with b r) (r .answer)
+          → Obeys (record { view = withPlaces (view b) (set (view b .places) (vacancyOf es) (some (started newcomer))); answer = 0 }) (with b r) (r .answer)
       starts n e = rw e (obeys-at b (with b r) (vacancyOf es) h
           (record {
+            market = refl;
             entries = λ m ne. ap (λ (l : List (Option Entry)). getD l m none) n ∙ getD-set-other es (vacancyOf es) m _ none ne;
             orders = λ m ne. refl;
             trades = λ m ne. refl;
@@ -73,7 +74,7 @@ module _ (b : Book) (index : ℕ) (name : List ℕ) (scale : ℕ) (r : Entered) 
     -- the tests of the rule are the same over the entries and over the view
     by-tests : (t u v : Bool) → ltb (vacancyOf es) symbols ≡ v → entries (r .symbols) ≡ registeredIf t u v es newcomer .view
         → r .answer ≡ registeredIf t u v es newcomer .answer
-        → Obeys (registeredIf t u v (view b) (started newcomer)) (with b r) (r .answer)
+        → Obeys (placing (view b) (registeredIf t u v (view b .places) (started newcomer))) (with b r) (r .answer)
     by-tests true u v q n a = stays 13 n a
     by-tests false true v q n a = stays 11 n a
     by-tests false false false q n a = stays 12 n a
@@ -89,6 +90,7 @@ module _ (b : Book) (index : ℕ) (name : List ℕ) (scale : ℕ) (r : Entered) 
 
   pub registering-steps : Steps b (registerOf (view b) index name scale) (record { book = with b r; answer = r .answer })
   registering-steps = record {
-    kept = λ u. λ i. record { symbols = p .kept (refused u) i; orders = b .orders; trades = b .trades };
+    market = same-market b (with b r) refl;
+    kept = λ u. λ i. record { symbols = p .kept (refused u) i; orders = b .orders; trades = b .trades; market = b .market };
     obeys = registers;
   }

@@ -35,7 +35,7 @@ use Rattle.book.specs.Step.{madeStale, enacted, cleared, put}
 use Rattle.book.specs.Promises.{unchanging, Obeys, Awaits, MakesStale, Enacts}
 use Rattle.book.specs.declared.Book.{Book}
 use Rattle.book.specs.declared.Done.{Done}
-use Rattle.book.proofs.Views.{obeys-at}
+use Rattle.book.proofs.Views.{same-market, obeys-at}
 
 -- ---- an entry altered: its own, and no other
 module _ (b r : Symbols) (k : ℕ) (f : Standing → Standing) (p : Alters b k f r) where
@@ -52,7 +52,7 @@ module _ (b : Book) (k : ℕ) (in-range : k < symbols) (e : Entry) (at : entryAt
   pub stales : (a : ℕ) (r : Done) → MakesStale b k a r
       → Obeys (put (view b) k (record { symbol = madeStale (symbolOf e (ordersAt b k) (tradesAt b k)); answer = a })) (r .book) a
   stales a r p = obeys-at b (r .book) k in-range
-      (record { entries = other-entry _ _ k staled (p .symbols); orders = λ m ne. rw (p .orders); trades = λ m ne. rw (p .trades) })
+      (record { market = p .market; entries = other-entry _ _ k staled (p .symbols); orders = λ m ne. rw (p .orders); trades = λ m ne. rw (p .trades) })
       _ (own-entry _ _ k staled (p .symbols) in-range e at)
       (record { symbol = madeStale (symbolOf e (ordersAt b k) (tradesAt b k)); answer = a }) w
       (record { names = p .symbols .wf (w .names); orders = rw (p .orders) (w .orders); trades = rw (p .trades) (w .trades) })
@@ -61,11 +61,11 @@ module _ (b : Book) (k : ℕ) (in-range : k < symbols) (e : Entry) (at : entryAt
   -- ---- applied: these orders and these trades, and the number counted
   applies : (c : Changed) (os : List Order) → changing.Obeys (b .orders) k (fits os) c → (d : Deal) (t : Dealt) → dealing.Obeys (b .trades) k (dealTo (tradesAt b k) d) t
       → e .standing .expected < numbers → (s : Symbols) → Alters (b .symbols) k (countedIf (t .lost)) s
-      → Obeys (put (view b) k (enacted (symbolOf e (ordersAt b k) (tradesAt b k)) d (ruled false false false (fits os)))) (record { symbols = s; orders = c .orders; trades = t .trades }) 0
+      → Obeys (put (view b) k (enacted (symbolOf e (ordersAt b k) (tradesAt b k)) d (ruled false false false (fits os)))) (record { symbols = s; orders = c .orders; trades = t .trades; market = b .market }) 0
   unfolding enacted ruled fitted
   applies c os p d t q n s a =
-      obeys-at b (record { symbols = s; orders = c .orders; trades = t .trades }) k in-range
-      (record { entries = other-entry _ _ k (countedIf (t .lost)) a; orders = p .others; trades = q .others })
+      obeys-at b (record { symbols = s; orders = c .orders; trades = t .trades; market = b .market }) k in-range
+      (record { market = refl; entries = other-entry _ _ k (countedIf (t .lost)) a; orders = p .others; trades = q .others })
       _ (own-entry _ _ k (countedIf (t .lost)) a in-range e at)
       (enacted (symbolOf e (ordersAt b k) (tradesAt b k)) d (ruled false false false (fits os))) w
       (record { names = a .wf (w .names); orders = p .wf; trades = q .wf })
@@ -73,9 +73,9 @@ module _ (b : Book) (k : ℕ) (in-range : k < symbols) (e : Entry) (at : entryAt
 
   -- ---- symbol clear
   pub clears : (next : ℕ) (s : Symbols) → Alters (b .symbols) k (restarted next) s → (os : Orders) → changing.Clears (b .orders) k os
-      → Obeys (put (view b) k (cleared (symbolOf e (ordersAt b k) (tradesAt b k)) next)) (record { symbols = s; orders = os; trades = b .trades }) 0
-  clears next s a os c = obeys-at b (record { symbols = s; orders = os; trades = b .trades }) k in-range
-      (record { entries = other-entry _ _ k (restarted next) a; orders = c .others; trades = λ m ne. refl })
+      → Obeys (put (view b) k (cleared (symbolOf e (ordersAt b k) (tradesAt b k)) next)) (record { symbols = s; orders = os; trades = b .trades; market = b .market }) 0
+  clears next s a os c = obeys-at b (record { symbols = s; orders = os; trades = b .trades; market = b .market }) k in-range
+      (record { market = refl; entries = other-entry _ _ k (restarted next) a; orders = c .others; trades = λ m ne. refl })
       _ (own-entry _ _ k (restarted next) a in-range e at)
       (cleared (symbolOf e (ordersAt b k) (tradesAt b k)) next) w
       (record { names = a .wf (w .names); orders = c .wf (w .orders); trades = w .trades })
@@ -115,6 +115,7 @@ module _ (b : Book) (k : ℕ) (c : Change) (d : Deal) (t : Awaits b k) (x : Chan
   pub enacts-refused : (a : ℕ) → a ≡ fitNumber (x .fit) → a ≢ 0 → (r : Done) → MakesStale b k a r → Enacts b k c d r
   unfolding enacted
   enacts-refused a is ne r s = record {
+    market = same-market b (r .book) (s .market);
     changes = ap unchanging (s .answer ∙ is) ∙ changes-something (x .fit);
     obeys = λ e at w.
         let same : a ≡ fitNumber (fitOf (applyTo (ordersAt b k) c)) = is ∙ by-rule w in
@@ -122,9 +123,10 @@ module _ (b : Book) (k : ℕ) (c : Change) (d : Deal) (t : Awaits b k) (x : Chan
   }
 
   pub enacts-fitting : fitNumber (x .fit) ≡ 0 → (y : Dealt) → dealing.Deals (b .trades) k d y → (s : Symbols) → Alters (b .symbols) k (countedIf (y .lost)) s
-      → Enacts b k c d (record { book = record { symbols = s; orders = x .orders; trades = y .trades }; answer = 0 })
+      → Enacts b k c d (record { book = record { symbols = s; orders = x .orders; trades = y .trades; market = b .market }; answer = 0 })
   unfolding among
   enacts-fitting f y q s a = record {
+    market = same-market b _ refl;
     changes = refl;
     obeys = λ e at w.
         let o = p .obeys (t .place) (w .orders) in

@@ -18,7 +18,7 @@ use Rattle.orders.specs.State as orders-room
 use Rattle.orders.specs.declared.Order.{Order}
 use Rattle.record.specs.State as record-room
 use Rattle.record.specs.declared.Trade.{Trade}
-use Rattle.book.specs.State.{Symbol, entryAt, ordersAt, tradesAt, symbolOf, view, entryOf, symbolIn, Wf}
+use Rattle.book.specs.State.{Symbol, withPlaces, entryAt, ordersAt, tradesAt, symbolOf, view, entryOf, placeIn, symbolIn, Wf}
 use Rattle.book.specs.Step.{Meeting, put}
 use Rattle.book.specs.Promises.{Obeys}
 use Rattle.book.specs.declared.Book.{Book}
@@ -27,12 +27,20 @@ use Rattle.book.specs.declared.Book.{Book}
 abbrev pub seen : Option Entry → List Order → List Trade → Option Symbol
 seen x os ts = Option·map (λ e. symbolOf e os ts) x
 
+-- ---- the market is the state's own
+pub view-market : (b : Book) → view b .market ≡ b .market
+unfolding view
+view-market b = refl
+
+pub same-market : (b r : Book) → r .market ≡ b .market → view r .market ≡ view b .market
+same-market b r e = view-market r ∙ e ∙ sym (view-market b)
+
 -- ---- what stands at a place
-pub length-view : (b : Book) → length (view b) ≡ symbols
+pub length-view : (b : Book) → length (view b .places) ≡ symbols
 unfolding view
 length-view b = length-tabulate symbols _
 
-pub view-at : (b : Book) (k : ℕ) → k < symbols → getD (view b) k none ≡ seen (entryAt b k) (ordersAt b k) (tradesAt b k)
+pub view-at : (b : Book) (k : ℕ) → k < symbols → getD (view b .places) k none ≡ seen (entryAt b k) (ordersAt b k) (tradesAt b k)
 unfolding view
 view-at b k h = getD-tabulate symbols _ k none h
 
@@ -46,19 +54,19 @@ vacant-seen none os ts = refl
 vacant-seen (some e) os ts = refl
 
 module _ (b : Book) where
-  pub place-is : (index : ℕ) → placeOf itself index (entries (b .symbols)) ≡ placeOf entryOf index (view b)
+  pub place-is : (index : ℕ) → placeOf itself index (entries (b .symbols)) ≡ placeIn index (view b)
   unfolding placeOf
-  place-is index = first-alike (hasIndex itself index) (hasIndex entryOf index) (entries (b .symbols)) (view b) none none (length-entries (b .symbols) ∙ sym (length-view b))
+  place-is index = first-alike (hasIndex itself index) (hasIndex entryOf index) (entries (b .symbols)) (view b .places) none none (length-entries (b .symbols) ∙ sym (length-view b))
       (λ k h. index-seen index (entryAt b k) (ordersAt b k) (tradesAt b k) ∙ ap (hasIndex entryOf index) (sym (view-at b k (rw (length-entries (b .symbols)) at h))))
 
-  pub vacancy-is : vacancyOf (entries (b .symbols)) ≡ vacancyOf (view b)
+  pub vacancy-is : vacancyOf (entries (b .symbols)) ≡ vacancyOf (view b .places)
   unfolding vacancyOf
-  vacancy-is = first-alike isVacant isVacant (entries (b .symbols)) (view b) none none (length-entries (b .symbols) ∙ sym (length-view b))
+  vacancy-is = first-alike isVacant isVacant (entries (b .symbols)) (view b .places) none none (length-entries (b .symbols) ∙ sym (length-view b))
       (λ k h. vacant-seen (entryAt b k) (ordersAt b k) (tradesAt b k) ∙ ap isVacant (sym (view-at b k (rw (length-entries (b .symbols)) at h))))
 
 -- ---- a symbol that is looked for
-pub symbol-missing : (b : Book) (index : ℕ) → symbols ≤ placeOf entryOf index (view b) → symbolIn index (view b) ≡ none
-symbol-missing b index h = missing entryOf (view b) index (rw (length-view b) h)
+pub symbol-missing : (b : Book) (index : ℕ) → symbols ≤ placeIn index (view b) → symbolIn index (view b) ≡ none
+symbol-missing b index h = missing entryOf (view b .places) index (rw (length-view b) h)
 
 -- the symbol with this index stands at place k
 pub record SymbolAt (b : Book) (index k : ℕ) : Type 0 where
@@ -66,10 +74,10 @@ pub record SymbolAt (b : Book) (index k : ℕ) : Type 0 where
   pub at : entryAt b k ≡ some entry
   pub there : symbolIn index (view b) ≡ some (symbolOf entry (ordersAt b k) (tradesAt b k))
 
-pub symbol-at : (b : Book) (index k : ℕ) → k ≡ placeOf entryOf index (view b) → k < symbols → SymbolAt b index k
+pub symbol-at : (b : Book) (index k : ℕ) → k ≡ placeIn index (view b) → k < symbols → SymbolAt b index k
 unfolding foundIn placeOf
 symbol-at b index k e h =
-    let p : hasIndex entryOf index (getD (view b) k none) ≡ true = (rw e (first-passes (hasIndex entryOf index) (view b) none (rw (length-view b, ← e) h))) in
+    let p : hasIndex entryOf index (getD (view b .places) k none) ≡ true = (rw e (first-passes (hasIndex entryOf index) (view b .places) none (rw (length-view b, ← e) h))) in
     go (entryAt b k) refl (sym (ap (hasIndex entryOf index) (view-at b k h)) ∙ p)
   where
     go : (x : Option Entry) → entryAt b k ≡ x → hasIndex entryOf index (seen (entryAt b k) (ordersAt b k) (tradesAt b k)) ≡ true → SymbolAt b index k
@@ -78,6 +86,7 @@ symbol-at b index k e h =
 
 -- ---- r is b but for place k
 pub record ButAt (k : ℕ) (b r : Book) : Type 0 where
+  pub market : r .market ≡ b .market
   pub entries : (m : ℕ) → (m ≡ k → ⊥) → entryAt r m ≡ entryAt b m
   pub orders : (m : ℕ) → (m ≡ k → ⊥) → ordersAt r m ≡ ordersAt b m
   pub trades : (m : ℕ) → (m ≡ k → ⊥) → tradesAt r m ≡ tradesAt b m
@@ -89,9 +98,12 @@ pub record SoundRooms (r : Book) : Type 0 where
   pub trades : record-room.Wf (r .trades)
 
 module _ (b r : Book) (k : ℕ) (in-range : k < symbols) (apart : ButAt k b r) where
-  view-but-one : view r ≡ set (view b) k (seen (entryAt r k) (ordersAt r k) (tradesAt r k))
+  view-but-one : view r ≡ withPlaces (view b) (set (view b .places) k (seen (entryAt r k) (ordersAt r k) (tradesAt r k)))
   unfolding view
-  view-but-one = tabulate-but-one symbols _ _ k in-range (λ m h ne. rw (apart .entries m ne, apart .orders m ne, apart .trades m ne))
+  view-but-one = λ i. record { market = apart .market i; places = same-but-one i }
+    where
+      same-but-one : view r .places ≡ set (view b .places) k (seen (entryAt r k) (ordersAt r k) (tradesAt r k))
+      same-but-one = tabulate-but-one symbols _ _ k in-range (λ m h ne. rw (apart .entries m ne, apart .orders m ne, apart .trades m ne))
 
   module _ (e : Entry) (at : entryAt r k ≡ some e) where
     not-none : {A : Type 0} → entryAt r k ≡ none → A
@@ -118,6 +130,6 @@ module _ (b r : Book) (k : ℕ) (in-range : k < symbols) (apart : ButAt k b r) w
     pub obeys-at : (x : Meeting) → Wf b → SoundRooms r → symbolOf e (ordersAt r k) (tradesAt r k) ≡ x .symbol → Obeys (put (view b) k x) r (x .answer)
     obeys-at x w s q = record {
       wf = wf-but-one w s;
-      next-view = view-but-one ∙ ap (λ (y : Option Symbol). set (view b) k y) (ap (λ (y : Option Entry). seen y (ordersAt r k) (tradesAt r k)) at ∙ ap some q);
+      next-view = view-but-one ∙ ap (λ (y : Option Symbol). withPlaces (view b) (set (view b .places) k y)) (ap (λ (y : Option Entry). seen y (ordersAt r k) (tradesAt r k)) at ∙ ap some q);
       answer = refl;
     }

@@ -11,7 +11,7 @@ use Rattle.wire.specs.Reading.{Read, reachOf, readOf, decodedAs}
 use Rattle.wire.specs.declared.Decoded.{Decoded}
 use Rattle.wire.proofs.Cases.{reached}
 use Rattle.book.specs.State.{View, view, Wf}
-use Rattle.book.specs.Step.{stepOf}
+use Rattle.book.specs.Step.{stepOf, stepIn}
 use Rattle.book.specs.Promises.{Steps}
 use Rattle.book.specs.Walk.{landing, stopping, offsetBy, moveOf, walkFor, walkOf, stepsOf, runOf, Moves, Runs}
 use Rattle.book.specs.declared.Book.{Book}
@@ -30,18 +30,20 @@ module _ (b : Book) (s : List ℕ) (at : ℕ) where
     at = rw e;
     offset = rw e;
     stops = rw e;
+    market = refl;
     stopped = λ t. rw e;
     kept = λ t. refl;
     obeys = λ w. record { wf = w; next-view = rw e; answer = rw e };
   }
 
-  pub move-goes : (n : ℕ) → reachOf (drop at s) ≡ done n → (d : Decoded) (r : Stepped) → decodedAs d ≡ readOf (take n (drop at s)) → Steps b (stepOf (view b) (decodedAs d)) (record { book = r .book; answer = r .answer }) → r .offset ≡ decodedAs d .offset
+  pub move-goes : (n : ℕ) → reachOf (drop at s) ≡ done n → (d : Decoded) (r : Stepped) → decodedAs d ≡ readOf (view b .market) (take n (drop at s)) → Steps b (stepOf (view b) (decodedAs d)) (record { book = r .book; answer = r .answer }) → r .offset ≡ decodedAs d .offset
       → Moves b s at (record { book = r .book; at = at + n; answer = r .answer; offset = r .offset; stops = false })
   unfolding moveOf
   move-goes n e d r q p o = record {
     at = rw e;
     offset = rw e (o ∙ ap (λ (x : Read). x .offset) q);
     stops = rw e;
+    market = p .market;
     stopped = λ t. absurd (false≢true t);
     kept = p .kept;
     obeys = λ w. rw (e, ← q) (p .obeys w);
@@ -51,7 +53,7 @@ module _ (b : Book) (s : List ℕ) (at : ℕ) where
 pub steps-join : (v : View) (ms ns : List (List ℕ)) → stepsOf v (ms ++ ns) ≡ stepsOf (stepsOf v ms) ns
 unfolding stepsOf
 steps-join v [] ns = refl
-steps-join v (m ∷ ms) ns = steps-join (stepOf v (readOf m) .view) ms ns
+steps-join v (m ∷ ms) ns = steps-join (stepIn v m .view) ms ns
 
 -- from here on there is so much of the walk to go
 pub record Left (s : List ℕ) (from : ℕ) (b : Book) (at : ℕ) (c : Book) : Type 0 where
@@ -62,12 +64,13 @@ pub record Left (s : List ℕ) (from : ℕ) (b : Book) (at : ℕ) (c : Book) : T
   pub same-answer : walkFor fuel s at .answer ≡ walkOf s from .answer
   pub passed : from ≤ at
   pub still : at ≡ from → c ≡ b
+  pub same-market : view c .market ≡ view b .market
   pub sound : Wf b → Wf c
   pub same-view : Wf b → stepsOf (view c) (walkFor fuel s at .messages) ≡ stepsOf (view b) (walkOf s from .messages)
 
 pub left-all : (s : List ℕ) (from : ℕ) (b : Book) → Left s from b from b
 unfolding walkOf
-left-all s from b = record { fuel = suc (length s); enough = omega arith; some = omega arith; same-end = refl; same-answer = refl; passed = omega arith; still = λ e. refl; sound = λ w. w; same-view = λ w. refl }
+left-all s from b = record { fuel = suc (length s); enough = omega arith; some = omega arith; same-end = refl; same-answer = refl; passed = omega arith; still = λ e. refl; same-market = refl; sound = λ w. w; same-view = λ w. refl }
 
 module _ (c : Book) (s : List ℕ) (at : ℕ) (r : Moved) (m : Moves c s at r) where
   -- whether it stopped, by what reaches from here
@@ -88,12 +91,12 @@ module _ (c : Book) (s : List ℕ) (at : ℕ) (r : Moved) (m : Moves c s at r) w
   pub passed-bytes : (n : ℕ) → reachOf (drop at s) ≡ done n → take (r .at - at) (drop at s) ≡ take n (drop at s)
   passed-bytes n e = ap (λ (j : ℕ). take j (drop at s)) (ap (λ (j : ℕ). j - at) (m .at ∙ ap (λ (x : Outcome ℕ). landing x at) e) ∙ add-sub-cancel-left at n)
 
-  pub passed-offset : r .stops ≡ false → r .offset ≡ readOf (take (r .at - at) (drop at s)) .offset
+  pub passed-offset : r .stops ≡ false → r .offset ≡ readOf (view c .market) (take (r .at - at) (drop at s)) .offset
   passed-offset f = go (reachOf (drop at s)) refl
     where
-      go : (x : Outcome ℕ) → reachOf (drop at s) ≡ x → r .offset ≡ readOf (take (r .at - at) (drop at s)) .offset
+      go : (x : Outcome ℕ) → reachOf (drop at s) ≡ x → r .offset ≡ readOf (view c .market) (take (r .at - at) (drop at s)) .offset
       go (refused a) e = absurd (true≢false (sym (stops-by (refused a) e) ∙ f))
-      go (done n) e = m .offset ∙ ap (λ (x : Outcome ℕ). offsetBy x s at) e ∙ ap (λ (t : List ℕ). readOf t .offset) (sym (passed-bytes n e))
+      go (done n) e = m .offset ∙ ap (λ (x : Outcome ℕ). offsetBy x (view c .market) s at) e ∙ ap (λ (t : List ℕ). readOf (view c .market) t .offset) (sym (passed-bytes n e))
 
   module _ (from : ℕ) (b : Book) where
     pub left-on : r .stops ≡ false → Left s from b at c → Left s from b (r .at) (r .book)
@@ -115,6 +118,7 @@ module _ (c : Book) (s : List ℕ) (at : ℕ) (r : Moved) (m : Moves c s at r) w
               same-answer = rw to (rw e at q);
               passed = omega (arith, l .passed);
               still = λ z. absurd (omega (arith, l .passed, z));
+              same-market = m .market ∙ l .same-market;
               sound = λ w. m .obeys (l .sound w) .wf;
               same-view = λ w. rw (to, m .obeys (l .sound w) .next-view, e) (rw e at (v w));
             }
@@ -133,6 +137,7 @@ module _ (c : Book) (s : List ℕ) (at : ℕ) (r : Moved) (m : Moves c s at r) w
             record {
               at = to ∙ (rw e at p);
               answer = number ∙ (rw e at q);
+              market = m .market ∙ l .same-market;
               kept = λ z. ap (λ (x : Moved). x .book) (m .stopped t) ∙ l .still (sym to ∙ z);
               obeys = λ w. record { wf = m .obeys (l .sound w) .wf; next-view = m .obeys (l .sound w) .next-view ∙ (rw e (rw e at (v w))); answer = number ∙ (rw e at q) };
             }

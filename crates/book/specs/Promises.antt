@@ -7,14 +7,13 @@ use Prim.Native.Nat.{ℕ, _<_}
 use lib.ListN.{set}
 use Rattle.feed.specs.Reader.{ruled}
 use Rattle.places.specs.Places.{symbols, among}
-use Rattle.symbols.specs.State.{numbers, Entry, placeOf}
-use Rattle.symbols.specs.Registering.{Next}
+use Rattle.symbols.specs.State.{numbers, Entry}
 use Rattle.symbols.specs.Turns.{staled}
 use Rattle.symbols.specs.Promises.{Alters}
 use Rattle.orders.specs.Rules.{applyTo}
 use Rattle.orders.specs.declared.Change.{Change}
 use Rattle.record.specs.declared.Deal.{Deal}
-use Rattle.book.specs.State.{Symbol, View, entryAt, ordersAt, tradesAt, symbolOf, view, entryOf, symbolIn, Wf}
+use Rattle.book.specs.State.{Symbol, View, withPlaces, Next, entryAt, ordersAt, tradesAt, symbolOf, view, placeIn, symbolIn, Wf}
 use Rattle.book.specs.Step.{changeOf, dealOf, madeStale, enacted, put}
 use Rattle.book.specs.declared.Book.{Book}
 use Rattle.book.specs.declared.Done.{Done}
@@ -32,16 +31,17 @@ staling a = among a (7 ∷ 9 ∷ 10 ∷ [])
 pub record BecomesStale (v : View) (index : ℕ) (w : View) : Type 0 where
   pub symbol : Symbol
   pub there : symbolIn index v ≡ some symbol
-  pub next-view : w ≡ set v (placeOf entryOf index v) (some (madeStale symbol))
+  pub next-view : w ≡ withPlaces v (set (v .places) (placeIn index v) (some (madeStale symbol)))
 
 -- the next state is sound, its view is the rule's, and so is the answer
-pub record Obeys (x : Next Symbol) (b : Book) (a : ℕ) : Type 0 where
+pub record Obeys (x : Next) (b : Book) (a : ℕ) : Type 0 where
   pub wf : Wf b
   pub next-view : view b ≡ x .view
   pub answer : a ≡ x .answer
 
--- with an answer that changes nothing the state is the one handed in, whatever it was
-pub record Steps (b : Book) (x : Next Symbol) (r : Done) : Type 0 where
+-- whatever the state was, its market stays, and with an answer that changes nothing it is the one handed in
+pub record Steps (b : Book) (x : Next) (r : Done) : Type 0 where
+  pub market : view (r .book) .market ≡ view b .market
   pub kept : unchanging (r .answer) ≡ true → r .book ≡ b
   pub obeys : Wf b → Obeys x (r .book) (r .answer)
 
@@ -57,10 +57,12 @@ pub record MakesStale (b : Book) (k a : ℕ) (r : Done) : Type 0 where
   pub symbols : Alters (b .symbols) k staled (r .book .symbols)
   pub orders : r .book .orders ≡ b .orders
   pub trades : r .book .trades ≡ b .trades
+  pub market : r .book .market ≡ b .market
   pub answer : r .answer ≡ a
 
 -- a change of the orders and a deal with the record: both are done, or the symbol becomes stale. Something changes, at place k alone
 pub record Enacts (b : Book) (k : ℕ) (c : Change) (d : Deal) (r : Done) : Type 0 where
+  pub market : view (r .book) .market ≡ view b .market
   pub changes : unchanging (r .answer) ≡ false
   pub obeys : (e : Entry) → entryAt b k ≡ some e → Wf b
       → Obeys (put (view b) k (enacted (symbolOf e (ordersAt b k) (tradesAt b k)) d (ruled false false false (applyTo (ordersAt b k) c)))) (r .book) (r .answer)

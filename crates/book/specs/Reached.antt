@@ -2,6 +2,7 @@
 use mathlib.Core.List.{List}
 use mathlib.Core.Path.{_≡_}
 use Prim.Native.Nat.{ℕ}
+use Rattle.wire.specs.declared.markets.Market.{Market}
 use Rattle.book.specs.State.{view, Fresh}
 use Rattle.book.specs.Registering.{registerOf, toldIn}
 use Rattle.book.specs.Quote.{quoteOf, volumeOf}
@@ -16,7 +17,7 @@ use Rattle.book.specs.declared.quote.Quote.{Quote}
 use Rattle.book.specs.declared.quote.Volume.{Volume}
 
 pub data Reached : Book → Type 0 where
-  new : {b : Book} → Fresh b → Reached b
+  new : {b : Book} {m : Market} → Fresh m b → Reached b
   registered : {b : Book} {r : Done} (index : ℕ) (name : List ℕ) (scale : ℕ) → Reached b → Steps b (registerOf (view b) index name scale) r → Reached (r .book)
   applied : {b : Book} {s : List ℕ} {at : ℕ} {r : Moved} → Reached b → Moves b s at r → Reached (r .book)
   ran : {b : Book} {s : List ℕ} {at : ℕ} {r : Ran} → Reached b → Runs b s at r → Reached (r .book)
@@ -32,3 +33,4 @@ pub record Alike (a b : Book) : Type 0 where
   pub telling : (index : ℕ) (q r : Listing) → q ≡ toldIn index (view a) → r ≡ toldIn index (view b) → q ≡ r
   pub quoting : (index : ℕ) (q r : Quote) → q ≡ quoteOf index (view a) → r ≡ quoteOf index (view b) → q ≡ r
   pub summing : (index : ℕ) (q r : Volume) → q ≡ volumeOf index (view a) → r ≡ volumeOf index (view b) → q ≡ r
+  pub market : (q r : Market) → q ≡ view a .market → r ≡ view b .market → q ≡ r

@@ -4,9 +4,10 @@ use mathlib.Core.Option.{Option, none, some, Option·map}
 use mathlib.Core.Path.{_≡_}
 use Prim.Native.Nat.{ℕ, _<_}
 use lib.ListN.{getD, replicate}
+use Rattle.wire.specs.declared.markets.Market.{Market}
 use Rattle.places.specs.Places.{symbols, tabulate}
 use Rattle.symbols.specs.State as symbols-room
-use Rattle.symbols.specs.State.{Entry, entries, foundIn, nobody}
+use Rattle.symbols.specs.State.{Entry, entries, placeOf, foundIn, nobody}
 use Rattle.orders.specs.State as orders-room
 use Rattle.orders.specs.State.{liveAt, noOrders}
 use Rattle.orders.specs.declared.Order.{Order}
@@ -21,9 +22,19 @@ pub record Symbol : Type 0 where
   pub orders : List Order
   pub trades : List Trade
 
--- ---- the view: eight places of registration, each empty or with its symbol
-abbrev pub View : Type 0
-View = List (Option Symbol)
+-- ---- the view: the market that the state was made for, and eight places of registration, each empty or with its symbol
+pub record View : Type 0 where
+  pub market : Market
+  pub places : List (Option Symbol)
+
+-- the same market with these places
+abbrev pub withPlaces : View → List (Option Symbol) → View
+withPlaces v ps = record { market = v .market; places = ps }
+
+-- what a call makes of it: the next view, and the answer
+pub record Next : Type 0 where
+  pub view : View
+  pub answer : ℕ
 
 abbrev pub entryAt : Book → ℕ → Option Entry
 entryAt b k = getD (entries (b .symbols)) k none
@@ -38,14 +49,17 @@ abbrev pub symbolOf : Entry → List Order → List Trade → Symbol
 symbolOf e os ts = record { entry = e; orders = os; trades = ts }
 
 unfoldable pub view : Book → View
-view b = tabulate symbols (λ k. Option·map (λ e. symbolOf e (ordersAt b k) (tradesAt b k)) (entryAt b k))
+view b = record { market = b .market; places = tabulate symbols (λ k. Option·map (λ e. symbolOf e (ordersAt b k) (tradesAt b k)) (entryAt b k)) }
 
--- ---- the symbol with an index
+-- ---- the symbol with an index, and where it stands
 abbrev pub entryOf : Symbol → Entry
 entryOf s = s .entry
 
+abbrev pub placeIn : ℕ → View → ℕ
+placeIn index v = placeOf entryOf index (v .places)
+
 abbrev pub symbolIn : ℕ → View → Option Symbol
-symbolIn index v = foundIn entryOf index v
+symbolIn index v = foundIn entryOf index (v .places)
 
 -- and its live orders: none if it is not registered
 abbrev pub liveOf : Option Symbol → List Order
@@ -63,13 +77,14 @@ pub record Wf (b : Book) : Type 0 where
   pub no-orders : (k : ℕ) → k < symbols → entryAt b k ≡ none → ordersAt b k ≡ []
   pub no-trades : (k : ℕ) → k < symbols → entryAt b k ≡ none → tradesAt b k ≡ []
 
--- ---- the new state: every place empty
-abbrev pub newView : View
-newView = replicate symbols none
+-- ---- the new state of a market: every place empty
+abbrev pub newView : Market → View
+newView m = record { market = m; places = replicate symbols none }
 
-pub record Fresh (r : Book) : Type 0 where
+pub record Fresh (m : Market) (r : Book) : Type 0 where
+  pub market : r .market ≡ m
   pub names : r .symbols ≡ nobody
   pub orders : r .orders ≡ noOrders
   pub trades : r .trades ≡ noTrades
   pub wf : Wf r
-  pub new-view : view r ≡ newView
+  pub new-view : view r ≡ newView m

@@ -8,10 +8,8 @@ use lib.ListN.{set}
 use Rattle.feed.specs.Reader.{Ruling, unchanged, made-stale, applied, ruled, Act, clearing, numbered, indexOf}
 use Rattle.wire.specs.Outcome.{Outcome, done, refused}
 use Rattle.wire.specs.Fields.{buyLetter}
-use Rattle.wire.specs.Reading.{Read}
+use Rattle.wire.specs.Reading.{Read, readOf}
 use Rattle.wire.specs.declared.Message.{Message}
-use Rattle.symbols.specs.State.{placeOf}
-use Rattle.symbols.specs.Registering.{Next}
 use Rattle.symbols.specs.Turns.{standingAt, staled, counted, restarted}
 use Rattle.symbols.specs.declared.Standing.{Standing}
 use Rattle.orders.specs.Rules.{applyTo}
@@ -20,7 +18,7 @@ use Rattle.orders.specs.declared.Change.{Change}
 use Rattle.record.specs.Rules.{dealTo}
 use Rattle.record.specs.declared.Deal.{Deal}
 use Rattle.record.specs.declared.Trade.{Trade}
-use Rattle.book.specs.State.{Symbol, View, symbolOf, entryOf, symbolIn}
+use Rattle.book.specs.State.{Symbol, View, withPlaces, Next, symbolOf, placeIn, symbolIn}
 use Rattle.book.specs.declared.acts.Effect.{Effect}
 use Rattle.book.specs.declared.acts as code
 
@@ -67,19 +65,19 @@ meeting s (clearing index next) = cleared s next
 meeting s (numbered index n e) = enacted s (dealOf e) (ruled (s .entry .standing .stale) (ltb n (s .entry .standing .expected)) (ltb (s .entry .standing .expected) n) (applyTo (s .orders) (changeOf e)))
 
 -- ---- the eight symbols: the next view, and the answer
-abbrev pub refusing : View → ℕ → Next Symbol
+abbrev pub refusing : View → ℕ → Next
 refusing v a = record { view = v; answer = a }
 
-abbrev pub put : View → ℕ → Meeting → Next Symbol
-put v k r = record { view = set v k (some (r .symbol)); answer = r .answer }
+abbrev pub put : View → ℕ → Meeting → Next
+put v k r = record { view = withPlaces v (set (v .places) k (some (r .symbol))); answer = r .answer }
 
 -- a symbol that is not registered answers 5; another one's place stays as it was
-abbrev pub actAt : View → ℕ → Option Symbol → Act Effect → Next Symbol
+abbrev pub actAt : View → ℕ → Option Symbol → Act Effect → Next
 actAt v k none a = refusing v 5
 actAt v k (some s) a = put v k (meeting s a)
 
-unfoldable pub actOn : View → Act Effect → Next Symbol
-actOn v a = actAt v (placeOf entryOf (indexOf a) v) (symbolIn (indexOf a) v) a
+unfoldable pub actOn : View → Act Effect → Next
+actOn v a = actAt v (placeIn (indexOf a) v) (symbolIn (indexOf a) v) a
 
 -- ---- what each message means
 abbrev pub buys : ℕ → Bool
@@ -110,9 +108,13 @@ actedAs (code.Act.Act.Clear index next) = clearing index next
 actedAs (code.Act.Act.Numbered index n e) = numbered index n e
 
 -- ---- the step: answers 1 to 4 leave all as it was
-abbrev pub stepOn : View → Outcome Message → Next Symbol
+abbrev pub stepOn : View → Outcome Message → Next
 stepOn v (done m) = actOn v (meant m)
 stepOn v (refused a) = refusing v a
 
-unfoldable pub stepOf : View → Read → Next Symbol
+unfoldable pub stepOf : View → Read → Next
 stepOf v d = stepOn v (d .outcome)
+
+-- of bytes, read as the view's market sends them
+abbrev pub stepIn : View → List ℕ → Next
+stepIn v m = stepOf v (readOf (v .market) m)

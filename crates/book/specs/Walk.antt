@@ -6,9 +6,9 @@ use mathlib.Core.Path.{_≡_}
 use lib.ListN.{length, take, drop}
 use Rattle.wire.specs.Outcome.{Outcome, done, refused, numberOf}
 use Rattle.wire.specs.Reading.{reachOf, readOf}
-use Rattle.symbols.specs.Registering.{Next}
-use Rattle.book.specs.State.{Symbol, View, view, Wf}
-use Rattle.book.specs.Step.{refusing, stepOf}
+use Rattle.wire.specs.declared.markets.Market.{Market}
+use Rattle.book.specs.State.{View, Next, view, Wf}
+use Rattle.book.specs.Step.{refusing, stepIn}
 use Rattle.book.specs.Promises.{unchanging, Obeys}
 use Rattle.book.specs.declared.Book.{Book}
 use Rattle.book.specs.declared.walk.Moved.{Moved}
@@ -24,15 +24,15 @@ stopping (refused a) = true
 stopping (done n) = false
 
 -- the offset of the first bad field in the message there; 0 where nothing reaches
-abbrev pub offsetBy : Outcome ℕ → List ℕ → ℕ → ℕ
-offsetBy (refused a) s at = 0
-offsetBy (done n) s at = readOf (take n (drop at s)) .offset
+abbrev pub offsetBy : Outcome ℕ → Market → List ℕ → ℕ → ℕ
+offsetBy (refused a) market s at = 0
+offsetBy (done n) market s at = readOf market (take n (drop at s)) .offset
 
-abbrev pub moveBy : Outcome ℕ → View → List ℕ → ℕ → Next Symbol
+abbrev pub moveBy : Outcome ℕ → View → List ℕ → ℕ → Next
 moveBy (refused a) v s at = refusing v a
-moveBy (done n) v s at = stepOf v (readOf (take n (drop at s)))
+moveBy (done n) v s at = stepIn v (take n (drop at s))
 
-unfoldable pub moveOf : View → List ℕ → ℕ → Next Symbol
+unfoldable pub moveOf : View → List ℕ → ℕ → Next
 moveOf v s at = moveBy (reachOf (drop at s)) v s at
 
 -- ---- all of it: the messages that stand end to end from a position, where they end, and the answer there
@@ -65,16 +65,17 @@ AllComplete (m ∷ ms) = CompleteMessage m × AllComplete ms
 -- ---- the run: the step over each message in turn
 unfoldable pub stepsOf : View → List (List ℕ) → View
 stepsOf v [] = v
-stepsOf v (m ∷ ms) = stepsOf (stepOf v (readOf m) .view) ms
+stepsOf v (m ∷ ms) = stepsOf (stepIn v m .view) ms
 
-unfoldable pub runOf : View → List ℕ → ℕ → Next Symbol
+unfoldable pub runOf : View → List ℕ → ℕ → Next
 runOf v s at = record { view = stepsOf v (walkOf s at .messages); answer = walkOf s at .answer }
 
--- ---- what the calls promise. Position, offset and stop are promised of any state
+-- ---- what the calls promise. Position, offset, stop and market are promised of any state
 pub record Moves (b : Book) (s : List ℕ) (from : ℕ) (r : Moved) : Type 0 where
   pub at : r .at ≡ landing (reachOf (drop from s)) from
-  pub offset : r .offset ≡ offsetBy (reachOf (drop from s)) s from
+  pub offset : r .offset ≡ offsetBy (reachOf (drop from s)) (view b .market) s from
   pub stops : r .stops ≡ stopping (reachOf (drop from s))
+  pub market : view (r .book) .market ≡ view b .market
   pub stopped : r .stops ≡ true → r ≡ record { book = b; at = from; answer = numberOf (reachOf (drop from s)); offset = 0; stops = true }
   pub kept : unchanging (r .answer) ≡ true → r .book ≡ b
   pub obeys : Wf b → Obeys (moveOf (view b) s from) (r .book) (r .answer)
@@ -82,5 +83,6 @@ pub record Moves (b : Book) (s : List ℕ) (from : ℕ) (r : Moved) : Type 0 whe
 pub record Runs (b : Book) (s : List ℕ) (from : ℕ) (r : Ran) : Type 0 where
   pub at : r .at ≡ walkOf s from .at
   pub answer : r .answer ≡ walkOf s from .answer
+  pub market : view (r .book) .market ≡ view b .market
   pub kept : r .at ≡ from → r .book ≡ b
   pub obeys : Wf b → Obeys (runOf (view b) s from) (r .book) (r .answer)

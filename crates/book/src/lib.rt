@@ -16,13 +16,16 @@ use record::Record;
 use symbols::Symbols;
 pub use walk::Moved;
 pub use walk::Ran;
-ghost use Rattle.book.specs.State.{Fresh};
+use wire::Market;
+ghost use mathlib.Core.Path.{_≡_};
+ghost use Rattle.book.specs.State.{view, Fresh};
 
 // The state.
 pub struct Book {
     symbols: Symbols,
     orders: Orders,
     trades: Record,
+    market: Market,
 }
 
 // The next state, and document 01's number.
@@ -32,9 +35,9 @@ pub struct Done {
 }
 
 impl Book {
-    // A state with no symbol.
-    pub fn new() -> Book
-        ensures { λ r. ⌜ Fresh r ⌝ }
+    // A state of a market, with no symbol.
+    pub fn new(market: Market) -> Book
+        ensures { λ r. ⌜ Fresh market r ⌝ }
     {
         let symbols = Symbols::new();
         let orders = Orders::new();
@@ -43,6 +46,14 @@ impl Book {
             symbols,
             orders,
             trades,
+            market,
         }
+    }
+
+    // The market that the state was made for.
+    pub fn market(self) -> Market
+        ensures { λ r. ⌜ r ≡ view self .market ⌝ }
+    {
+        self.market
     }
 }

@@ -24,10 +24,12 @@ impl Book {
         let symbols = entered.count(k, d.lost);
         let orders = c.orders;
         let trades = d.trades;
+        let market = self.market;
         let book = Book {
             symbols,
             orders,
             trades,
+            market,
         };
         Done { book, answer: 0 }
     }

@@ -43,7 +43,8 @@ impl Book {
             },
             Reach::Size(size) => {
                 let end = at + size;
-                let d = wire::decode(&s[at..end]);
+                let market = self.market;
+                let d = wire::decode(market, &s[at..end]);
                 let r = self.step(d);
                 let next = r.book;
                 Moved {

@@ -3,12 +3,12 @@ use mathlib.Core.List.{List, [], _∷_}
 use mathlib.Core.Path.{_≡_, refl, ap, _∙_}
 use Rattle.wire.specs.Bytes.{value, littleEndian}
 use Rattle.wire.specs.Table.{shapeOf}
+use Rattle.wire.specs.Markets.{listed}
 use Rattle.wire.specs.Fields.{firstBad, faultOf}
 use Rattle.wire.specs.Reading.{reachBy, reachOf, readBy, readBody, readSized, readShape, readTyped, readReached, readOf}
 use Rattle.places.specs.Places.{firstWhere, fold, sumBy, insert, remove, look, tabulate}
 use Rattle.symbols.specs.State.{placeOf, foundIn, vacancyOf, paddedName}
 use Rattle.symbols.specs.Registering.{nameBad, registered, toldOf}
-use Rattle.symbols.specs.declared.registering.Listing.{Listing}
 use Rattle.orders.specs.Rules.{applyTo}
 use Rattle.record.specs.Rules.{dealTo}
 use Rattle.book.specs.State.{View}
@@ -46,7 +46,7 @@ all-by-calls [] h = tt
 all-by-calls (r ∷ rs) h = (by-calls r (h .0), all-by-calls rs (h .1))
 
 by-rule : AllRows ByRule rows
-unfolding value littleEndian shapeOf firstBad faultOf reachBy reachOf readBy readBody readSized readShape readTyped readReached readOf firstWhere fold sumBy insert remove look placeOf foundIn vacancyOf applyTo dealTo nameBad registered bestStep sharesAt levelOf quoteOf ruled enacted meeting actOn meant stepOf moveOf stepsOf
+unfolding listed value littleEndian shapeOf firstBad faultOf reachBy reachOf readBy readBody readSized readShape readTyped readReached readOf firstWhere fold sumBy insert remove look placeOf foundIn vacancyOf applyTo dealTo nameBad registered bestStep sharesAt levelOf quoteOf ruled enacted meeting actOn meant stepOf moveOf stepsOf
 by-rule = (refl, (refl, (refl, (refl, (refl, (refl, (refl, (refl, (refl, (refl, (refl, (refl, (refl, tt)))))))))))))
 
 -- what is told of ABC is what the marked case has
@@ -59,7 +59,7 @@ unfolding value littleEndian shapeOf firstBad faultOf reachBy reachOf readBy rea
 line-l = record {
   reads = refl;
   by-calls = λ p out after h promise room.
-      promise (began-wf (has-began h)) ∙ ap (λ (s : Listing). lineOf s marked.add marked.firm marked.sequenceL marked.secondL out) (abc-told h) ∙ case-l out room;
+      promise (began-wf (has-began h)) ∙ (λ i. lineOf (has-view h i .market) (abc-told h i) marked.add marked.firm marked.sequenceL marked.secondL out) ∙ case-l _ out room;
 }
 
 -- THE DAY

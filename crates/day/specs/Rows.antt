@@ -6,6 +6,7 @@ use lib.ListN.{length, take, drop}
 use Rattle.wire.specs.Outcome.{done, only}
 use Rattle.wire.specs.Reading.{reachOf, readAs, readOf}
 use Rattle.wire.specs.Writing.{leaving}
+use Rattle.wire.specs.declared.markets.Market.{Market}
 use Rattle.book.specs.State.{View, view, Wf}
 use Rattle.book.specs.Quote.{noQuote, quoteOf}
 use Rattle.book.specs.Walk.{landing, moveOf, stepsOf, Moves}
@@ -25,7 +26,7 @@ pub record Result : Type 0 where
   pub moves : ℕ
   pub quote : Quote
 
--- A row: after these messages, starting from a new state with ABC registered, these bytes come to this
+-- A row: after these messages, starting from a new state of NYSE with ABC registered, these bytes come to this
 pub record Row : Type 0 where
   pub after : List (List ℕ)
   pub bytes : List ℕ
@@ -113,8 +114,8 @@ rows =
 
 -- ---- L: the line of #3, an add, read from its bytes, into any buffer that has room
 pub record LineL : Type 0 where
-  pub reads : readOf (add 3 1001 buy 1234500 200) ≡ readAs (only (done marked.add)) marked.firm
-  pub by-calls : {b : Book} (p : Printed) (out after : List ℕ) → HasABC b → (Wf b → printed p after ≡ lineOf (told b marked.add) marked.add marked.firm marked.sequenceL marked.secondL out)
+  pub reads : readOf Market.Nyse (add 3 1001 buy 1234500 200) ≡ readAs (only (done marked.add)) marked.firm
+  pub by-calls : {b : Book} (p : Printed) (out after : List ℕ) → HasABC b → (Wf b → printed p after ≡ lineOf (view b .market) (told b marked.add) marked.add marked.firm marked.sequenceL marked.secondL out)
       → length marked.lineL ≤ length out → printed p after ≡ leaving (only (done (length marked.lineL))) (marked.lineL ++ drop (length marked.lineL) out)
 
 -- ---- all of the day

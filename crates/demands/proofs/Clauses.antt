@@ -18,21 +18,21 @@ use Rattle.demands.specs.Demand3.{StandsAt, Reads, Given, AnsweredAs, No
 use Rattle.demands.proofs.Demand3.{demand-3-holds}
 
 module _ (b c : Book) (f : ByteFeed) (first second : Book) (at : Now Reads b c f first second) (index : ℕ) where
-  pub nothing-lost : NoneLost index (feedOf f) → quoteIn second index ≡ quoteIn first index
+  pub nothing-lost : NoneLost index (feedOf (view b .market) f) → quoteIn second index ≡ quoteIn first index
   nothing-lost = demand-3-holds b c f first second at .nothing-lost index
 
-  pub nothing-lost-quotes-the-book : Registered index (view b) → NoneLost index (feedOf f) → quoteIn second index ≡ quotedIf false (bookOf pillar index (feedOf f))
+  pub nothing-lost-quotes-the-book : Registered index (view b) → NoneLost index (feedOf (view b .market) f) → quoteIn second index ≡ quotedIf false (bookOf pillar index (feedOf (view b .market) f))
   nothing-lost-quotes-the-book = demand-3-holds b c f first second at .quotes-the-book index
 
-  pub after-a-loss-as-just-before : {h : ByteFeed} {before : Book} → Moment h f → Reads b (sent h) before → AfterLoss index (feedOf h) (feedOf f) → quoteIn second index ≡ quoteIn before index
+  pub after-a-loss-as-just-before : {h : ByteFeed} {before : Book} → Moment h f → Reads b (sent h) before → AfterLoss index (feedOf (view b .market) h) (feedOf (view b .market) f) → quoteIn second index ≡ quoteIn before index
   after-a-loss-as-just-before = demand-3-holds b c f first second at .after-a-loss index
 
-  pub then-refused-until-a-clear : UntilClear index (feedOf f) → quoteIn second index ≡ noQuote 8
+  pub then-refused-until-a-clear : UntilClear index (feedOf (view b .market) f) → quoteIn second index ≡ noQuote 8
   then-refused-until-a-clear = demand-3-holds b c f first second at .refused-until-a-clear index
 
-  pub from-that-clear-on : {next : ℕ} {h : Feed Effect} → Since (NotLost index) (h ▷ heard (clearing index next)) (feedOf f) → quoteIn second index ≡ quoteIn first index
+  pub from-that-clear-on : {next : ℕ} {h : Feed Effect} → Since (NotLost index) (h ▷ heard (clearing index next)) (feedOf (view b .market) f) → quoteIn second index ≡ quoteIn first index
   from-that-clear-on = demand-3-holds b c f first second at .from-that-clear-on index
 
 pub answered-0-then-7-then-8 : (b c : Book) (f : ByteFeed) (first second : Book) → Now Reads b c f first second → {s : List ℕ} {at : ℕ} {m : List ℕ} {r : Moved}
-    → Given b c (hears f m) → StandsAt s at m → Moves second s at r → AnsweredAs f m (r .answer)
+    → Given b c (hears f m) → StandsAt s at m → Moves second s at r → AnsweredAs (view b .market) f m (r .answer)
 answered-0-then-7-then-8 b c f first second at = demand-3-holds b c f first second at .answers

@@ -17,21 +17,22 @@ use Rattle.wire.specs.Message.{faultIn, badFieldOf}
 use Rattle.wire.specs.FirstBad.{Locates}
 use Rattle.wire.specs.declared.Fault.{Fault}
 use Rattle.wire.specs.declared.Message.{Message}
+use Rattle.wire.specs.declared.markets.Market.{Market}
 use Rattle.wire.proofs.Cases.{done-is-not-refused, reached, reach-short, reach-small, reach-beyond, reach-size}
 use Rattle.wire.proofs.Offsets.{read-locates, field-locates, write-locates}
 use Rattle.wire.proofs.Refusing.{reach-refused, read-refused, read-zeros, reached-refused, write-refused, write-untouched, write-fills}
 use Rattle.feed.specs.Reader.{Fit, fits, misfit, no-room, ruled, Act, clearing, numbered, indexOf}
 use Rattle.places.specs.Places.{among}
-use Rattle.symbols.specs.State.{Entry, entries, itself, placeOf}
+use Rattle.symbols.specs.State.{Entry, entries, itself}
 use Rattle.symbols.specs.Turns.{turnAnswer, turnAt}
-use Rattle.symbols.specs.Registering.{Next, toldOf}
+use Rattle.symbols.specs.Registering.{toldOf}
 use Rattle.symbols.specs.declared.registering.Listing.{Listing}
 use Rattle.symbols.proofs.Finding.{register-answers}
 use Rattle.orders.specs.Rules.{applyTo}
 use Rattle.orders.specs.Promises.{fitNumber}
 use Rattle.orders.specs.declared.Fit as code
-use Rattle.book.specs.State.{Symbol, View, view, entryOf, symbolIn, liveOf, liveIn}
-use Rattle.book.specs.Step.{changeOf, dealOf, enacted, meeting, actAt, actOn, meant, stepOn, stepOf}
+use Rattle.book.specs.State.{Symbol, View, Next, view, entryOf, placeIn, symbolIn, liveOf, liveIn}
+use Rattle.book.specs.Step.{changeOf, dealOf, enacted, meeting, actAt, actOn, meant, stepOn, stepOf, stepIn}
 use Rattle.book.specs.Registering.{started, registerOf}
 use Rattle.book.specs.Promises.{unchanging, staling, Steps}
 use Rattle.book.specs.Walk.{landing, stopping, offsetBy, moveBy, moveOf, walkOf, runOf, Moves}
@@ -62,25 +63,25 @@ reach-numbers s = go (reachOf s) (reach-refused (OneOf (0 ∷ 1 ∷ 2 ∷ [])) r
     go (done n) h = refl
     go (refused n) h = h n refl
 
-read-numbers : (s : List ℕ) → OneOf (0 ∷ 1 ∷ 2 ∷ 3 ∷ 4 ∷ []) (numberOf (readOf s .outcome))
+read-numbers : (market : Market) (s : List ℕ) → OneOf (0 ∷ 1 ∷ 2 ∷ 3 ∷ 4 ∷ []) (numberOf (readOf market s .outcome))
 unfolding among
-read-numbers s = go (readOf s .outcome) (read-refused (OneOf (0 ∷ 1 ∷ 2 ∷ 3 ∷ 4 ∷ [])) refl refl refl s refl)
+read-numbers market s = go (readOf market s .outcome) (read-refused (OneOf (0 ∷ 1 ∷ 2 ∷ 3 ∷ 4 ∷ [])) refl refl refl market s refl)
   where
     go : (x : Outcome Message) → ((n : ℕ) → x ≡ refused n → OneOf (0 ∷ 1 ∷ 2 ∷ 3 ∷ 4 ∷ []) n) → OneOf (0 ∷ 1 ∷ 2 ∷ 3 ∷ 4 ∷ []) (numberOf x)
     go (done m) h = refl
     go (refused n) h = h n refl
 
-write-numbers : (m : Message) (plain out : List ℕ) → OneOf (0 ∷ 4 ∷ 15 ∷ []) (numberOf (writeOf m plain out .outcome))
+write-numbers : (market : Market) (m : Message) (plain out : List ℕ) → OneOf (0 ∷ 4 ∷ 15 ∷ []) (numberOf (writeOf market m plain out .outcome))
 unfolding among
-write-numbers m plain out = go (writeOf m plain out .outcome) (write-refused m plain out (OneOf (0 ∷ 4 ∷ 15 ∷ [])) refl refl)
+write-numbers market m plain out = go (writeOf market m plain out .outcome) (write-refused market m plain out (OneOf (0 ∷ 4 ∷ 15 ∷ [])) refl refl)
   where
     go : (x : Outcome ℕ) → ((n : ℕ) → x ≡ refused n → OneOf (0 ∷ 4 ∷ 15 ∷ []) n) → OneOf (0 ∷ 4 ∷ 15 ∷ []) (numberOf x)
     go (done m) h = refl
     go (refused n) h = h n refl
 
-field-numbers : (m : Message) → OneOf (0 ∷ 4 ∷ []) (numberOf (badFieldOf m .outcome))
+field-numbers : (market : Market) (m : Message) (plain : List ℕ) → OneOf (0 ∷ 4 ∷ []) (numberOf (badFieldOf market m plain .outcome))
 unfolding among
-field-numbers m = go (faultIn m)
+field-numbers market m plain = go (faultIn market m plain)
   where
     go : (x : Fault) → OneOf (0 ∷ 4 ∷ []) (numberOf (faultAs x .outcome))
     go Fault.Nothing = refl
@@ -141,11 +142,11 @@ meeting-keeps-orders s (clearing index next) = λ n. absurd (n refl)
 meeting-keeps-orders s (numbered index n e) = ruled-keeps-orders s (s .entry .standing .stale) (ltb n (s .entry .standing .expected)) (ltb (s .entry .standing .expected) n) (applyTo (s .orders) (changeOf e)) (dealOf e)
 
 -- of the next view, of all symbols
-abbrev NoneChanges : View → Next Symbol → Type 0
+abbrev NoneChanges : View → Next → Type 0
 NoneChanges v x = x .answer ≢ 0 → (i : ℕ) → liveIn i (x .view) ≡ liveIn i v
 
 module _ (v : View) (a : Act Effect) where
-  own-same : (x : Option Symbol) → symbolIn (indexOf a) v ≡ x → actAt v (placeOf entryOf (indexOf a) v) x a .answer ≢ 0 → liveIn (indexOf a) (actOn v a .view) ≡ liveIn (indexOf a) v
+  own-same : (x : Option Symbol) → symbolIn (indexOf a) v ≡ x → actAt v (placeIn (indexOf a) v) x a .answer ≢ 0 → liveIn (indexOf a) (actOn v a .view) ≡ liveIn (indexOf a) v
   own-same none e n = ap (liveIn (indexOf a)) (unregistered-stays v a e)
   own-same (some s) e n = ap liveOf (own-symbol v a s e) ∙ meeting-keeps-orders s a n ∙ sym (ap liveOf e)
 
@@ -157,9 +158,9 @@ module _ (v : View) (a : Act Effect) where
       go true e = rw (eqb-true i (indexOf a) e) (own-same (symbolIn (indexOf a) v) refl n)
       go false e = ap liveOf (own-symbol-only v a i (eqb-false i (indexOf a) e))
 
-step-keeps : (v : View) (m : List ℕ) → NoneChanges v (stepOf v (readOf m))
+step-keeps : (v : View) (m : List ℕ) → NoneChanges v (stepIn v m)
 unfolding stepOf
-step-keeps v m = go (readOf m .outcome)
+step-keeps v m = go (readOf (v .market) m .outcome)
   where
     go : (x : Outcome Message) → NoneChanges v (stepOn v x)
     go (done y) = act-keeps v (meant y)
@@ -186,10 +187,10 @@ module _ {b : Book} (p : Reached b) {s : List ℕ} {at : ℕ} {r : Moved} (m : M
   unfolding among moveOf stepOf
   leaves-stale h = reaches (reachOf (drop at s)) refl
     where
-      reads : (n : ℕ) → reachOf (drop at s) ≡ done n → (x : Outcome Message) → readOf (take n (drop at s)) .outcome ≡ x → LeavesStale b s at r
+      reads : (n : ℕ) → reachOf (drop at s) ≡ done n → (x : Outcome Message) → readOf (view b .market) (take n (drop at s)) .outcome ≡ x → LeavesStale b s at r
       reads n e (refused k) f =
           let number : r .answer ≡ k = answered ∙ ap (λ (y : Outcome ℕ). moveBy y (view b) s at .answer) e ∙ ap (λ (y : Outcome Message). stepOn (view b) y .answer) f in
-          absurd (reached-refused (λ (j : ℕ). staling j ≡ true → ⊥) (not-staling 2 refl) (not-staling 3 refl) (not-staling 4 refl) (drop at s) n e k f (rw number at h))
+          absurd (reached-refused (λ (j : ℕ). staling j ≡ true → ⊥) (not-staling 2 refl) (not-staling 3 refl) (not-staling 4 refl) (view b .market) (drop at s) n e k f (rw number at h))
       reads n e (done x) f =
           let here : StandsAt s at (take n (drop at s)) = record { size = n; reaches = e; bytes = refl } in
           let acts = stands-acts (view b) here f in
@@ -205,10 +206,10 @@ module _ {b : Book} (p : Reached b) {s : List ℕ} {at : ℕ} {r : Moved} (m : M
       reaches (refused k) e =
           let number : r .answer ≡ k = answered ∙ ap (λ (y : Outcome ℕ). moveBy y (view b) s at .answer) e in
           absurd (reach-refused (λ (j : ℕ). staling j ≡ true → ⊥) (not-staling 1 refl) (not-staling 2 refl) (drop at s) k e (rw number at h))
-      reaches (done n) e = reads n e (readOf (take n (drop at s)) .outcome) refl
+      reaches (done n) e = reads n e (readOf (view b .market) (take n (drop at s)) .outcome) refl
 
   -- the message that stands there is the one that reaches from there
-  bytes-there : (n : ℕ) → reachOf (drop at s) ≡ done n → {k : ℕ} (x : BadThere s at k) → take n (drop at s) ≡ x .bytes
+  bytes-there : (n : ℕ) → reachOf (drop at s) ≡ done n → {k : ℕ} (x : BadThere (view b .market) s at k) → take n (drop at s) ≡ x .bytes
   bytes-there n e x = ap (λ (y : Outcome ℕ). taken y) (sym e ∙ x .stands .reaches) ∙ x .stands .bytes
     where
       taken : Outcome ℕ → List ℕ
@@ -216,23 +217,23 @@ module _ {b : Book} (p : Reached b) {s : List ℕ} {at : ℕ} {r : Moved} (m : M
       taken (refused j) = []
 
   -- a 4 is reading's, and so is its offset
-  apply-locates : Locates (BadThere s at) (r .answer) (r .offset)
+  apply-locates : Locates (BadThere (view b .market) s at) (r .answer) (r .offset)
   unfolding moveOf
   apply-locates = go (reachOf (drop at s)) refl
     where
-      go : (x : Outcome ℕ) → reachOf (drop at s) ≡ x → Locates (BadThere s at) (r .answer) (r .offset)
+      go : (x : Outcome ℕ) → reachOf (drop at s) ≡ x → Locates (BadThere (view b .market) s at) (r .answer) (r .offset)
       go (refused k) e =
           let number : r .answer ≡ k = answered ∙ ap (λ (y : Outcome ℕ). moveBy y (view b) s at .answer) e in
           record {
             bad-field = λ four. absurd (reach-refused (λ (j : ℕ). j ≢ 4) (λ z. omega (arith, z)) (λ z. omega (arith, z)) (drop at s) k e (sym number ∙ four));
             answered = λ j x. absurd (done-is-not-refused (sym e ∙ x .stands .reaches));
-            no-field = λ other. m .offset ∙ ap (λ (y : Outcome ℕ). offsetBy y s at) e;
+            no-field = λ other. m .offset ∙ ap (λ (y : Outcome ℕ). offsetBy y (view b .market) s at) e;
           }
       go (done n) e =
-          let d = readOf (take n (drop at s)) in
+          let d = readOf (view b .market) (take n (drop at s)) in
           let number : r .answer ≡ stepOf (view b) d .answer = answered ∙ ap (λ (y : Outcome ℕ). moveBy y (view b) s at .answer) e in
-          let offset : r .offset ≡ d .offset = m .offset ∙ ap (λ (y : Outcome ℕ). offsetBy y s at) e in
-          let read = read-locates (take n (drop at s)) in
+          let offset : r .offset ≡ d .offset = m .offset ∙ ap (λ (y : Outcome ℕ). offsetBy y (view b .market) s at) e in
+          let read = read-locates (view b .market) (take n (drop at s)) in
           let four = four-is-read (view b) d in
           record {
             bad-field = λ z. record { bytes = take n (drop at s); stands = record { size = n; reaches = e; bytes = refl }; first = rw offset (read .bad-field (four .0 (sym number ∙ z))) };
@@ -329,7 +330,7 @@ module _ {b : Book} (p : Reached b) where
   registering-number : {r : Done} (index : ℕ) (name : List ℕ) (scale : ℕ) → Steps b (registerOf (view b) index name scale) r → Answers (0 ∷ 11 ∷ 12 ∷ 13 ∷ []) (registerOf (view b) index name scale .answer) (r .answer)
   registering-number index name scale m =
       let number = m .obeys (reached-wf p) .answer in
-      record { one-of = rw number (register-answers entryOf started (view b) index name scale); by-rule = number }
+      record { one-of = rw number (register-answers entryOf started (view b .places) index name scale); by-rule = number }
 
   room-numbers : RoomNumbers
   room-numbers = record {
@@ -359,7 +360,7 @@ module _ {b : Book} (p : Reached b) where
   buffers : Buffers
   buffers = record {
     reading = read-zeros;
-    writing = λ m plain out n e. (write-untouched m plain out n e, ap countOf e);
+    writing = λ market m plain out n e. (write-untouched market m plain out n e, ap countOf e);
     beyond = write-fills;
   }
 
@@ -368,13 +369,13 @@ module _ {b : Book} (p : Reached b) where
     reading = read-locates;
     testing = field-locates;
     writing = write-locates;
-    printing = λ m plain sequence second out. line-locates m (told b m) plain sequence second out;
+    printing = λ m plain sequence second out. line-locates (view b .market) m plain (told b m) sequence second out;
     applying = λ m. apply-locates p m;
   }
 
   page-numbers : PageNumbers b
   page-numbers = record {
-    printing = λ m plain sequence second out. line-answers (told b m) m plain sequence second out;
+    printing = λ m plain sequence second out. line-answers (view b .market) (told b m) m plain sequence second out;
     laying = λ x. laying-answers (reached-wf p) x;
     ending = λ index answer out. laid-answers (closing (view b) index answer) out;
   }
@@ -382,8 +383,8 @@ module _ {b : Book} (p : Reached b) where
   pages : Pages b
   pages = record {
     printing = λ m plain sequence second out. record {
-      refused-untouched = λ n e. (line-refused (told b m) m plain sequence second out n e, ap countOf e);
-      beyond = bytes-beyond-stay (told b m) m plain sequence second out;
+      refused-untouched = λ n e. (line-refused (view b .market) (told b m) m plain sequence second out n e, ap countOf e);
+      beyond = bytes-beyond-stay (view b .market) (told b m) m plain sequence second out;
     };
     ending = λ index answer out. record {
       refused-untouched = λ n e. (laid-refused (closing (view b) index answer) out n e, ap countOf e);

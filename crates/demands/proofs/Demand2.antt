@@ -10,11 +10,11 @@ use Rattle.wire.specs.Outcome.{done}
 use Rattle.wire.specs.Reading.{readOf}
 use Rattle.wire.specs.declared.Head.{Head}
 use Rattle.wire.specs.declared.Message.{Message}
+use Rattle.wire.specs.declared.markets.Market.{Market}
 use Rattle.wire.proofs.RoundTrip.{read-what-was-written, write-what-was-read}
-use Rattle.symbols.specs.Registering.{Next}
-use Rattle.book.specs.State.{Symbol, View, view, symbolIn, liveIn}
+use Rattle.book.specs.State.{Symbol, View, Next, view, symbolIn, liveIn}
 use Rattle.book.specs.Quote.{quoted, quoteOf, sideOf}
-use Rattle.book.specs.Step.{buys, ifPrintable, meant, stepOf}
+use Rattle.book.specs.Step.{buys, ifPrintable, meant, stepIn}
 use Rattle.book.specs.Walk.{walkOf, stepsOf, runOf, Moves, Runs}
 use Rattle.book.specs.Reached.{Reached}
 use Rattle.book.specs.declared.Book.{Book}
@@ -24,11 +24,12 @@ use Rattle.book.specs.declared.walk.Moved.{Moved}
 use Rattle.book.specs.declared.walk.Ran.{Ran}
 use Rattle.book.proofs.Holding.{all-live, orders-within, trades-within, one-live, one-kept}
 use Rattle.book.proofs.Isolation.{step-others, apply-others}
+use Rattle.book.proofs.OneMarket.{step-market}
 use Rattle.book.proofs.Positions.{position-is-sum, stops-there}
 use Rattle.book.proofs.Levels.{exact-sum, attained, best-price, none-live, case-d, execution}
 use Rattle.book.proofs.Marks.{apply-mark, run-mark}
 use Rattle.book.proofs.Reaching.{reached-wf}
-use Rattle.demands.specs.Demand2.{OfSymbol, OfMessage, AllNotFor, OfRun, Demand2, RoundTrips}
+use Rattle.demands.specs.Demand2.{NotFor, OfSymbol, OfMessage, AllNotFor, OfRun, Demand2, RoundTrips}
 use Rattle.demands.specs.Demand3.{StandsAt, quoteIn}
 use Rattle.demands.proofs.Demand3.{stands-acts}
 
@@ -46,32 +47,34 @@ is-quoted buy index v p n q = go (symbolIn index v) refl buy q
     go none e false z = absurd (let o : _≡_ {A = ℕ} 0 1 = cc in omega arith)
     go (some s) e side z = record { symbol = s; there = e }
 
-steps-others : (index : ℕ) (ms : List (List ℕ)) (v : View) → AllNotFor index ms → symbolIn index (stepsOf v ms) ≡ symbolIn index v
+steps-others : (market : Market) (index : ℕ) (ms : List (List ℕ)) (v : View) → v .market ≡ market → AllNotFor market index ms → symbolIn index (stepsOf v ms) ≡ symbolIn index v
 unfolding stepsOf
-steps-others index [] v other = refl
-steps-others index (m ∷ ms) v other = steps-others index ms (stepOf v (readOf m) .view) (other .1) ∙ step-others v (readOf m) index (other .0)
+steps-others market index [] v same other = refl
+steps-others market index (m ∷ ms) v same other =
+    steps-others market index ms (stepIn v m .view) (step-market v (readOf (v .market) m) ∙ same) (other .1)
+    ∙ step-others v (readOf (v .market) m) index (subst (λ (k : Market). NotFor k index m) (sym same) (other .0))
 
 module _ {b : Book} (p : Reached b) where
   add-raises : {s : List ℕ} {at : ℕ} {m : List ℕ} {r : Moved} → Moves b s at r
-      → (head : Head) (order price volume side size : ℕ) → StandsAt s at m → readOf m .outcome ≡ done (Message.Add head order price volume side) → r .answer ≡ 0
+      → (head : Head) (order price volume side size : ℕ) → StandsAt s at m → readOf (view b .market) m .outcome ≡ done (Message.Add head order price volume side) → r .answer ≡ 0
       → sideOf (buys side) (quoteIn b (head .index)) ≡ Level.Best price size → sideOf (buys side) (quoteIn (r .book) (head .index)) ≡ Level.Best price (size + volume)
   unfolding meant
   add-raises m head order price volume side size t e z q =
       let o = m .obeys (reached-wf p) in
       let acts = stands-acts (view b) t e in
       let is = is-quoted (buys side) (head .index) (view b) price size q in
-      ap (λ (v : View). sideOf (buys side) (quoteOf (head .index) v)) (o .next-view ∙ ap (λ (x : Next Symbol). x .view) acts)
-      ∙ case-d (buys side) (view b) (head .index) (head .number) order price volume size (is .symbol) (is .there) q (sym (o .answer ∙ ap (λ (x : Next Symbol). x .answer) acts) ∙ z)
+      ap (λ (v : View). sideOf (buys side) (quoteOf (head .index) v)) (o .next-view ∙ ap (λ (x : Next). x .view) acts)
+      ∙ case-d (buys side) (view b) (head .index) (head .number) order price volume size (is .symbol) (is .there) q (sym (o .answer ∙ ap (λ (x : Next). x .answer) acts) ∙ z)
 
   execution-takes-off : {s : List ℕ} {at : ℕ} {m : List ℕ} {r : Moved} → Moves b s at r
-      → (head : Head) (order trade price volume printable : ℕ) → StandsAt s at m → readOf m .outcome ≡ done (Message.Execute head order trade price volume printable) → r .answer ≡ 0
+      → (head : Head) (order trade price volume printable : ℕ) → StandsAt s at m → readOf (view b .market) m .outcome ≡ done (Message.Execute head order trade price volume printable) → r .answer ≡ 0
       → TakesOff order volume (liveIn (head .index) (view b)) (liveIn (head .index) (view (r .book)))
   unfolding meant
   execution-takes-off m head order trade price volume printable t e z =
       let o = m .obeys (reached-wf p) in
       let acts = stands-acts (view b) t e in
-      subst (λ (v : View). TakesOff order volume (liveIn (head .index) (view b)) (liveIn (head .index) v)) (sym (o .next-view ∙ ap (λ (x : Next Symbol). x .view) acts))
-      (execution (view b) (head .index) (head .number) order volume (ifPrintable printable trade price volume) (all-live b (head .index)) (sym (o .answer ∙ ap (λ (x : Next Symbol). x .answer) acts) ∙ z))
+      subst (λ (v : View). TakesOff order volume (liveIn (head .index) (view b)) (liveIn (head .index) v)) (sym (o .next-view ∙ ap (λ (x : Next). x .view) acts))
+      (execution (view b) (head .index) (head .number) order volume (ifPrintable printable trade price volume) (all-live b (head .index)) (sym (o .answer ∙ ap (λ (x : Next). x .answer) acts) ∙ z))
 
   of-symbol : (index : ℕ) (s : Symbol) → symbolIn index (view b) ≡ some s → OfSymbol b index s
   of-symbol index s e = record {
@@ -92,6 +95,7 @@ module _ {b : Book} (p : Reached b) where
     execution = execution-takes-off m;
     others-unchanged = λ index other. apply-others b s at r (reached-wf p) m index (λ n x e f. other (take n (drop at s)) (record { size = n; reaches = e; bytes = refl }) x f);
     mark-stays-lost = λ index. apply-mark index b s at r (reached-wf p) m;
+    market-stays = m .market;
   }
 
   of-run : {s : List ℕ} {from : ℕ} {r : Ran} → Runs b s from r → OfRun b s from r
@@ -100,12 +104,13 @@ module _ {b : Book} (p : Reached b) where
     effects = m .obeys (reached-wf p);
     position = position-is-sum b s from r m;
     stopped = rw (m .at, m .answer) (stops-there s from);
-    others-unchanged = λ index other. ap (symbolIn index) (m .obeys (reached-wf p) .next-view) ∙ steps-others index (walkOf s from .messages) (view b) other;
+    others-unchanged = λ index other. ap (symbolIn index) (m .obeys (reached-wf p) .next-view) ∙ steps-others (view b .market) index (walkOf s from .messages) (view b) refl other;
     mark-stays-lost = λ index. run-mark index b s from r (reached-wf p) m;
+    market-stays = m .market;
   }
 
   pub demand-2-holds : Demand2 b
-  demand-2-holds = record { symbols = of-symbol; messages = of-message; runs = of-run }
+  demand-2-holds = record { symbols = of-symbol; messages = of-message; runs = of-run; market-stays = λ index name scale s. s .market }
 
 pub round-trips : RoundTrips
 round-trips = record { read-what-was-written = read-what-was-written; write-what-was-read = write-what-was-read }

@@ -11,14 +11,14 @@ use Rattle.feed.specs.Feed.{heard, _▷_, first, second}
 use Rattle.feed.specs.Feed as feed-given
 use Rattle.feed.specs.Demand3 as feed
 use Rattle.feed.proofs.Demand3.{demand-3}
-use Rattle.symbols.specs.Registering.{Next}
-use Rattle.book.specs.State.{Symbol, View, view, Wf}
-use Rattle.book.specs.Step.{actOn, meant, stepOn, stepOf}
+use Rattle.book.specs.State.{View, Next, view, Wf}
+use Rattle.book.specs.Step.{actOn, meant, stepOn, stepOf, stepIn}
 use Rattle.book.specs.Quote.{quoteOf}
 use Rattle.book.specs.Walk.{AllComplete, moveBy, moveOf, stepsOf, runOf, Moves}
 use Rattle.book.specs.declared.Book.{Book}
 use Rattle.book.specs.declared.walk.Moved.{Moved}
 use Rattle.book.proofs.Walking.{steps-join}
+use Rattle.book.proofs.OneMarket.{steps-market}
 use Rattle.demands.specs.Reader.{pillar, Effect, asQuote}
 use Rattle.demands.specs.ByteFeed.{ByteFeed, hears, sent, delivered, IsDone, Applied, goesOn, feedOf}
 use Rattle.demands.specs.Demand3.{Began, StandsAt, Reads, nothing, applies, refuses, runs, RunsOver, ran, Given, AnswersZero, nothing-yet, to-heard, to-lost, AnsweredAs, Demand3, quoteIn}
@@ -30,12 +30,12 @@ use Rattle.demands.proofs.Refused.{refused-changes-nothing, counted-ste
 use Rattle.demands.proofs.Translating.{steps-last, first-steps, second-steps, heard-says, heard-acts, is-registered, given-feed}
 
 -- ---- a message that stands there is stepped over
-pub stands-step : (v : View) {s : List ℕ} {at : ℕ} {m : List ℕ} → StandsAt s at m → moveOf v s at ≡ stepOf v (readOf m)
+pub stands-step : (v : View) {s : List ℕ} {at : ℕ} {m : List ℕ} → StandsAt s at m → moveOf v s at ≡ stepIn v m
 unfolding moveOf
-stands-step v {s = s} {at = at} t = ap (λ (x : Outcome ℕ). moveBy x v s at) (t .reaches) ∙ ap (λ (b : List ℕ). stepOf v (readOf b)) (t .bytes)
+stands-step v {s = s} {at = at} t = ap (λ (x : Outcome ℕ). moveBy x v s at) (t .reaches) ∙ ap (λ (b : List ℕ). stepIn v b) (t .bytes)
 
 -- and one that is read is one act
-pub stands-acts : (v : View) {s : List ℕ} {at : ℕ} {m : List ℕ} {x : Message} → StandsAt s at m → readOf m .outcome ≡ done x → moveOf v s at ≡ actOn v (meant x)
+pub stands-acts : (v : View) {s : List ℕ} {at : ℕ} {m : List ℕ} {x : Message} → StandsAt s at m → readOf (v .market) m .outcome ≡ done x → moveOf v s at ≡ actOn v (meant x)
 unfolding stepOf
 stands-acts v t e = stands-step v t ∙ ap (stepOn v) e
 
@@ -52,8 +52,8 @@ reads-after {b = b} w (applies {ms = ms} {c = c} {m = m} p stands moves) =
     let o = moves .obeys (a .sound) in
     record {
       sound = o .wf;
-      seen = o .next-view ∙ ap (λ (x : Next Symbol). x .view) (stands-step (view c) stands)
-          ∙ ap (λ (v : View). stepOf v (readOf m) .view) (a .seen) ∙ sym (steps-last (view b) ms m);
+      seen = o .next-view ∙ ap (λ (x : Next). x .view) (stands-step (view c) stands)
+          ∙ ap (λ (v : View). stepIn v m .view) (a .seen) ∙ sym (steps-last (view b) ms m);
     }
 reads-after w (refuses p moves least most) =
     let a = reads-after w p in
@@ -70,32 +70,32 @@ Faithful Takes = (b : Book) (ms : List (List ℕ)) (r : Book) → Wf b → AllCo
 
 module _ (Takes : Book → List (List ℕ) → Book → Type 0) (faithful : Faithful Takes) (b c : Book) where
   module _ {f : ByteFeed} (g : Given b c f) where
-    first-quotes : {r : Book} → Takes b (sent f) r → (index : ℕ) → quoteIn r index ≡ asQuote (quote pillar reader (first pillar reader (view b) (feedOf f)) index)
+    first-quotes : {r : Book} → Takes b (sent f) r → (index : ℕ) → quoteIn r index ≡ asQuote (quote pillar reader (first pillar reader (view b) (feedOf (view b .market) f)) index)
     first-quotes {r = r} t index =
         ap (quoteOf index) (faithful b (sent f) r (began-wf (g .first-began)) (sent-complete f (g .complete)) t .seen ∙ first-steps (view b) f (g .applied))
-        ∙ quotes-kept (first pillar reader (view b) (feedOf f)) index
+        ∙ quotes-kept (first pillar reader (view b) (feedOf (view b .market) f)) index
 
     second-after : {r : Book} → Takes c (delivered f) r → After c (delivered f) r
     second-after {r = r} t = faithful c (delivered f) r (began-wf (g .second-began)) (delivered-complete f (g .complete)) t
 
-    second-view : {r : Book} → Takes c (delivered f) r → view r ≡ second pillar reader (view c) (feedOf f)
-    second-view t = second-after t .seen ∙ second-steps (view b) (view c) f (g .applied)
+    second-view : {r : Book} → Takes c (delivered f) r → view r ≡ second pillar reader (view c) (feedOf (view b .market) f)
+    second-view t = second-after t .seen ∙ second-steps (view b) (view c) (sym (g .same-market)) f (g .applied)
 
-    second-quotes : {r : Book} → Takes c (delivered f) r → (index : ℕ) → quoteIn r index ≡ asQuote (quote pillar reader (second pillar reader (view c) (feedOf f)) index)
+    second-quotes : {r : Book} → Takes c (delivered f) r → (index : ℕ) → quoteIn r index ≡ asQuote (quote pillar reader (second pillar reader (view c) (feedOf (view b .market) f)) index)
     second-quotes {r = r} t index =
         ap (quoteOf index) (second-view t)
-        ∙ quotes-kept (second pillar reader (view c) (feedOf f)) index
+        ∙ quotes-kept (second pillar reader (view c) (feedOf (view b .market) f)) index
 
-    answers-next : {d : Book} → Takes c (delivered f) d → {s : List ℕ} {at : ℕ} {m : List ℕ} {r : Moved} → Given b c (hears f m) → StandsAt s at m → Moves d s at r → AnsweredAs f m (r .answer)
+    answers-next : {d : Book} → Takes c (delivered f) d → {s : List ℕ} {at : ℕ} {m : List ℕ} {r : Moved} → Given b c (hears f m) → StandsAt s at m → Moves d s at r → AnsweredAs (view b .market) f m (r .answer)
     unfolding feedOf
     answers-next {d = d} t {s = s} {at = at} {m = m} h stands moves =
         let says = heard-says (view b) f m (h .applied) in
-        let given : feed-given.Given pillar reader (view b) (view c) (feedOf f ▷ heard (says .act)) = subst (λ (x : Option (Act Effect)). feed-given.Given pillar reader (view b) (view c) (goesOn (feedOf f) heard x)) (says .is) (given-feed b c (hears f m) h) in
+        let given : feed-given.Given pillar reader (view b) (view c) (feedOf (view b .market) f ▷ heard (says .act)) = subst (λ (x : Option (Act Effect)). feed-given.Given pillar reader (view b) (view c) (goesOn (feedOf (view b .market) f) heard x)) (says .is) (given-feed b c (hears f m) h) in
         record {
           act = says .act;
           says = says .is;
           number =
-              moves .obeys (second-after t .sound) .answer ∙ ap (λ (x : Next Symbol). x .answer) (stands-step (view d) stands ∙ heard-acts (view b) f m (h .applied) (view d))
+              moves .obeys (second-after t .sound) .answer ∙ ap (λ (x : Next). x .answer) (stands-step (view d) stands ∙ heard-acts (view b) f m (h .applied) (view d) (ap (λ (v : View). v .market) (second-after t .seen) ∙ steps-market (view c) (delivered f) ∙ sym (g .same-market)))
               ∙ ap (λ (v : View). actOn v (says .act) .answer) (second-view t)
               ∙ demand-3 pillar reader (view b) (view c) .answers given;
         }
@@ -144,7 +144,7 @@ zero-reads (to-lost p stands moves z) = applies (zero-reads p) stands moves
 zero-done : {b c : Book} {f : ByteFeed} {s : List ℕ} {at : ℕ} {m : List ℕ} {r : Moved} → Wf b → AnswersZero b f c → StandsAt s at m → Moves c s at r → r .answer ≡ 0 → IsDone (view b) (sent f) m
 zero-done {c = c} {m = m} w p stands moves z =
     let a = reads-after w (zero-reads p) in
-    ap (λ (v : View). stepOf v (readOf m) .answer) (sym (a .seen)) ∙ sym (ap (λ (x : Next Symbol). x .answer) (stands-step (view c) stands)) ∙ sym (moves .obeys (a .sound) .answer) ∙ z
+    ap (λ (v : View). stepIn v m .answer) (sym (a .seen)) ∙ sym (ap (λ (x : Next). x .answer) (stands-step (view c) stands)) ∙ sym (moves .obeys (a .sound) .answer) ∙ z
 
 pub applied-by-calls : {b r : Book} {f : ByteFeed} → Began b → AnswersZero b f r → Applied (view b) f
 unfolding Applied

@@ -11,6 +11,7 @@ use Rattle.wire.specs.Reading.{reachBy, reachOf, readBy, readBody, readSized, r
 use Rattle.wire.specs.Writing.{Write, writeSized, writeBy, writeShape, writeOf}
 use Rattle.wire.specs.Message.{faultIn, badFieldOf}
 use Rattle.wire.specs.declared.Message.{Message}
+use Rattle.wire.specs.declared.markets.Market.{Market}
 use Rattle.feed.specs.Reader.{ruled}
 use Rattle.places.specs.Places.{firstWhere, tabulate, fold, sumBy, insert, remove, look}
 use Rattle.symbols.specs.State.{placeOf, foundIn, vacancyOf, paddedName}
@@ -45,22 +46,26 @@ deletion nanos = Message.Delete (record { nanos = nanos; index = index; number =
 abbrev zeros : List ℕ
 zeros = replicate plainRoom 0
 
+-- NYSE's, as those of the views
+abbrev nyse : Market
+nyse = Market.Nyse
+
 pub record ByWire : Type 0 where
   pub reach-0 : reachOf (clear 1) ≡ done 20
   pub reach-1 : reachOf [] ≡ refused 1
   pub reach-2 : reachOf small ≡ refused 2
-  pub read-1 : readOf [] .outcome ≡ refused 1
-  pub read-2 : readOf small .outcome ≡ refused 2
-  pub read-3 : readOf unknown .outcome ≡ refused 3
-  pub read-4 : readOf (add 1 1001 0 1234500 200) .outcome ≡ refused 4
-  pub read-4-at : readOf (add 1 1001 0 1234500 200) .offset ≡ 32
-  pub read-4-first : readOf (add 1 1001 0 1234500 0) .offset ≡ 28
-  pub test-0 : badFieldOf (deletion 125) ≡ only (done tt)
-  pub test-4 : badFieldOf (deletion 1000000000) ≡ badAt 4
-  pub write-0 : writeOf (deletion 125) zeros (replicate 25 0) .outcome ≡ done 25
-  pub write-4 : writeOf (deletion 1000000000) zeros (replicate 25 0) .outcome ≡ refused 4
-  pub write-4-at : writeOf (deletion 1000000000) zeros (replicate 25 0) .offset ≡ 4
-  pub write-15 : writeOf (deletion 125) zeros (replicate 24 0) .outcome ≡ refused 15
+  pub read-1 : readOf nyse [] .outcome ≡ refused 1
+  pub read-2 : readOf nyse small .outcome ≡ refused 2
+  pub read-3 : readOf nyse unknown .outcome ≡ refused 3
+  pub read-4 : readOf nyse (add 1 1001 0 1234500 200) .outcome ≡ refused 4
+  pub read-4-at : readOf nyse (add 1 1001 0 1234500 200) .offset ≡ 32
+  pub read-4-first : readOf nyse (add 1 1001 0 1234500 0) .offset ≡ 28
+  pub test-0 : badFieldOf nyse (deletion 125) zeros ≡ only (done tt)
+  pub test-4 : badFieldOf nyse (deletion 1000000000) zeros ≡ badAt 4
+  pub write-0 : writeOf nyse (deletion 125) zeros (replicate 25 0) .outcome ≡ done 25
+  pub write-4 : writeOf nyse (deletion 1000000000) zeros (replicate 25 0) .outcome ≡ refused 4
+  pub write-4-at : writeOf nyse (deletion 1000000000) zeros (replicate 25 0) .offset ≡ 4
+  pub write-15 : writeOf nyse (deletion 125) zeros (replicate 24 0) .outcome ≡ refused 15
 
 pub by-wire : ByWire
 unfolding value littleEndian shapeOf firstBad faultOf faultIn reachBy reachOf readBy readBody readSized readShape readTyped readReached readOf writeSized writeBy writeShape writeOf
@@ -72,21 +77,21 @@ gap = add 2 1001 buy 1234500 200
 
 -- so many symbols registered
 unfoldable pub registeredTo : ℕ → View
-registeredTo zero = newView
+registeredTo zero = newView nyse
 registeredTo (suc n) = registerOf (registeredTo n) n name scale .view
 
 pub record ByBook : Type 0 where
-  pub register-0 : registerOf newView index name scale .answer ≡ 0
+  pub register-0 : registerOf (newView nyse) index name scale .answer ≡ 0
   pub register-11 : registerOf viewABC index name scale .answer ≡ 11
   pub register-12 : registerOf (registeredTo 8) 8 name scale .answer ≡ 12
-  pub register-13 : registerOf newView index name 7 .answer ≡ 13
+  pub register-13 : registerOf (newView nyse) index name 7 .answer ≡ 13
   pub quote-0 : quoteOf index viewABC .answer ≡ 0
-  pub quote-5 : quoteOf index newView .answer ≡ 5
+  pub quote-5 : quoteOf index (newView nyse) .answer ≡ 5
   pub quote-8 : quoteOf index (stepsOf viewABC (gap ∷ [])) .answer ≡ 8
   pub volume-0 : volumeOf index viewABC .answer ≡ 0
-  pub volume-5 : volumeOf index newView .answer ≡ 5
+  pub volume-5 : volumeOf index (newView nyse) .answer ≡ 5
   pub symbol-0 : toldIn index viewABC .answer ≡ 0
-  pub symbol-5 : toldIn index newView .answer ≡ 5
+  pub symbol-5 : toldIn index (newView nyse) .answer ≡ 5
 
 pub by-book : ByBook
 unfolding registeredTo value littleEndian shapeOf firstBad faultOf reachBy reachOf readBy readBody readSized readShape readTyped readReached readOf firstWhere insert remove look placeOf foundIn vacancyOf applyTo dealTo nameBad registering.registered registering.toldOf toldIn quoteOf volumeOf ruled enacted meeting actOn meant stepOf stepsOf
@@ -105,8 +110,8 @@ pub record ByMessage : Type 0 where
   pub given-2 : Answered viewABC small 2
   pub given-3 : Answered viewABC unknown 3
   pub given-4 : Answered viewABC (add 1 1001 0 1234500 200) 4
-  pub given-4-at : offsetBy (reachOf (add 1 1001 0 1234500 200)) (add 1 1001 0 1234500 200) 0 ≡ 32
-  pub given-5 : Answered newView one 5
+  pub given-4-at : offsetBy (reachOf (add 1 1001 0 1234500 200)) nyse (add 1 1001 0 1234500 200) 0 ≡ 32
+  pub given-5 : Answered (newView nyse) one 5
   pub given-6 : Answered viewABC (add 0 1001 buy 1234500 200) 6
   pub given-7 : Answered viewABC gap 7
   pub given-8 : Answered (stepsOf viewABC (gap ∷ [])) one 8
@@ -138,14 +143,14 @@ abbrev bought : (side : ℕ) → Message
 bought side = Message.Add (record { nanos = 125; index = index; number = 1 }) 1001 1234500 200 side
 
 abbrev lined : View → Message → (second room : ℕ) → Write
-lined v m second room = lineOf (toldIn index v) m zeros 57 second (replicate room 0)
+lined v m second room = lineOf (v .market) (toldIn index v) m zeros 57 second (replicate room 0)
 
 pub record ByPage : Type 0 where
   pub line-0 : lined viewABC (bought buy) 34200 60 .outcome ≡ done 60
   pub line-3 : lined viewABC (deletion 125) 34200 60 .outcome ≡ refused 3
   pub line-4 : lined viewABC (bought 0) 34200 60 .outcome ≡ refused 4
   pub line-4-at : lined viewABC (bought 0) 34200 60 .offset ≡ 32
-  pub line-5 : lined newView (bought buy) 34200 60 .outcome ≡ refused 5
+  pub line-5 : lined (newView nyse) (bought buy) 34200 60 .outcome ≡ refused 5
   pub line-14 : lined viewABC (bought buy) 86400 60 .outcome ≡ refused 14
   pub line-15 : lined viewABC (bought buy) 34200 59 .outcome ≡ refused 15
   pub lay-1 : layOf 34200 640 viewABC one 0 0 .answer ≡ 1

@@ -8,8 +8,10 @@ use borrow.Author.Tests.{lt-ltb}
 use lib.Dec.{eqb}
 use Rattle.wire.specs.Bytes.{value, littleEndian}
 use Rattle.wire.specs.Table.{shapeOf}
+use Rattle.wire.specs.Markets.{listed}
 use Rattle.wire.specs.Fields.{firstBad, faultOf}
 use Rattle.wire.specs.Reading.{reachBy, reachOf, readBy, readBody, readSized, readShape, readTyped, readReached, readOf}
+use Rattle.wire.specs.declared.markets.Market.{Market}
 use Rattle.feed.specs.Reader.{ruled, numbered}
 use Rattle.places.specs.Places.{firstWhere, fold, sumBy, insert, remove, look}
 use Rattle.symbols.specs.State.{placeOf, foundIn, vacancyOf}
@@ -31,13 +33,13 @@ use Rattle.demands.specs.Reader.{Effect, Registered}
 use Rattle.demands.specs.ByteFeed.{ByteFeed, sent, delivered, Complete, Applied, ClearsDelivered}
 use Rattle.demands.specs.Demand3.{Began, Given}
 use Rattle.demands.specs.Demand3 as began
-use Rattle.demands.specs.Examples.{name, scale, HasABC, registered, viewABC, other, viewABCThenXYZ, viewXYZThenABC, oneAdd, withLosses, quotesAlong, alongLosses, last, pastTheLast, lastLost}
+use Rattle.demands.specs.Examples.{name, scale, HasABCOn, registered, viewOn, HasABC, viewABC, other, viewABCThenXYZ, viewXYZThenABC, oneAdd, withLosses, quotesAlong, alongLosses, last, pastTheLast, lastLost, inTexas}
 use Rattle.demands.specs.Messages.{index}
 
-pub has-began : {b : Book} → HasABC b → Began b
+pub has-began : {market : Market} {b : Book} → HasABCOn market b → Began b
 has-began (registered f s) = began.registers index name scale (began.new f) s
 
-pub has-view : {b : Book} → HasABC b → view b ≡ viewABC
+pub has-view : {market : Market} {b : Book} → HasABCOn market b → view b ≡ viewOn market
 has-view (registered f s) = s .obeys (f .wf) .next-view ∙ ap (λ (v : View). registerOf v index name scale .view) (f .new-view)
 
 -- what is left to be seen of a feed
@@ -46,18 +48,19 @@ pub record Fair (v : View) (f : ByteFeed) : Type 0 where
   pub applied : Applied v f
   pub clears : ClearsDelivered f
 
-met : {b c : Book} (v w : View) (f : ByteFeed) → Fair v f → ((i : ℕ) → Registered i v ↔ Registered i w) → Began b → Began c → view b ≡ v → view c ≡ w → Given b c f
-met v w f x same p q e d = record {
+met : {b c : Book} (v w : View) (f : ByteFeed) → Fair v f → v .market ≡ w .market → ((i : ℕ) → Registered i v ↔ Registered i w) → Began b → Began c → view b ≡ v → view c ≡ w → Given b c f
+met v w f x market same p q e d = record {
   first-began = p;
   second-began = q;
+  same-market = rw (e, d) market;
   same-symbols = λ i. rw (e, d) (same i);
   complete = x .complete;
   applied = rw e (x .applied);
   clears-delivered = x .clears;
 }
 
-met-by-ABC : {b c : Book} (f : ByteFeed) → Fair viewABC f → HasABC b → HasABC c → Given b c f
-met-by-ABC f x p q = met viewABC viewABC f x (λ i. ((λ y. y), (λ y. y))) (has-began p) (has-began q) (has-view p) (has-view q)
+met-by-ABC : {b c : Book} (market : Market) (f : ByteFeed) → Fair (viewOn market) f → HasABCOn market b → HasABCOn market c → Given b c f
+met-by-ABC market f x p q = met (viewOn market) (viewOn market) f x refl (λ i. ((λ y. y), (λ y. y))) (has-began p) (has-began q) (has-view p) (has-view q)
 
 -- by computation
 record AllFair : Type 0 where
@@ -66,10 +69,11 @@ record AllFair : Type 0 where
   pub to-two : Fair viewABCThenXYZ withLosses
   pub past-the-last : Fair viewABC pastTheLast
   pub last-lost : Fair viewABC lastLost
+  pub in-texas : Fair (viewOn Market.Texas) inTexas
   pub along : quotesAlong withLosses ≡ alongLosses
 
 all-fair : AllFair
-unfolding Complete Applied ClearsDelivered sent quotesAlong delivered quoteOf levelOf bestStep sharesAt fold sumBy value littleEndian shapeOf firstBad faultOf reachBy reachOf readBy readBody readSized readShape readTyped readReached readOf firstWhere insert remove look placeOf foundIn vacancyOf applyTo dealTo nameBad registering.registered ruled enacted meeting actOn meant stepOf stepsOf
+unfolding Complete Applied ClearsDelivered sent quotesAlong delivered quoteOf levelOf bestStep sharesAt fold sumBy listed value littleEndian shapeOf firstBad faultOf reachBy reachOf readBy readBody readSized readShape readTyped readReached readOf firstWhere insert remove look placeOf foundIn vacancyOf applyTo dealTo nameBad registering.registered ruled enacted meeting actOn meant stepOf stepsOf
 all-fair = record {
   one-add = record { complete = (tt, refl); applied = (tt, refl); clears = tt };
   with-losses = record {
@@ -84,6 +88,7 @@ all-fair = record {
   };
   past-the-last = record { complete = ((((tt, refl), refl), refl), refl); applied = ((((tt, refl), refl), refl), refl); clears = tt };
   last-lost = record { complete = ((((tt, refl), refl), refl), refl); applied = ((((tt, refl), refl), refl), refl); clears = (tt, omega arith) };
+  in-texas = record { complete = (((tt, refl), refl), refl); applied = (((tt, refl), refl), refl); clears = (tt, omega arith) };
   along = refl;
 }
 
@@ -94,16 +99,20 @@ losses-quoted = all-fair .along
 -- THE PREMISE IS MET, with losses and at number 4,294,967,295
 module _ {b c : Book} (p : HasABC b) (q : HasABC c) where
   pub given-one-add : Given b c oneAdd
-  given-one-add = met-by-ABC oneAdd (all-fair .one-add) p q
+  given-one-add = met-by-ABC Market.Nyse oneAdd (all-fair .one-add) p q
 
   pub given-with-losses : Given b c withLosses
-  given-with-losses = met-by-ABC withLosses (all-fair .with-losses) p q
+  given-with-losses = met-by-ABC Market.Nyse withLosses (all-fair .with-losses) p q
 
   pub given-past-the-last : Given b c pastTheLast
-  given-past-the-last = met-by-ABC pastTheLast (all-fair .past-the-last) p q
+  given-past-the-last = met-by-ABC Market.Nyse pastTheLast (all-fair .past-the-last) p q
 
   pub given-last-lost : Given b c lastLost
-  given-last-lost = met-by-ABC lastLost (all-fair .last-lost) p q
+  given-last-lost = met-by-ABC Market.Nyse lastLost (all-fair .last-lost) p q
+
+-- and in another market, with conditions that it alone lists
+pub given-in-texas : {b c : Book} → HasABCOn Market.Texas b → HasABCOn Market.Texas c → Given b c inTexas
+given-in-texas = met-by-ABC Market.Texas inTexas (all-fair .in-texas)
 
 -- and with two symbols, registered in either order
 either-order : (i : ℕ) → Registered i viewABCThenXYZ ↔ Registered i viewXYZThenABC
@@ -117,7 +126,7 @@ either-order i = go (eqb index i) (eqb other i) refl refl
     go false false e d = rw (e, d) ((λ y. y), (λ y. y))
 
 pub given-in-either-order : {b c : Book} → Began b → Began c → view b ≡ viewABCThenXYZ → view c ≡ viewXYZThenABC → Given b c withLosses
-given-in-either-order = met viewABCThenXYZ viewXYZThenABC withLosses (all-fair .to-two) either-order
+given-in-either-order = met viewABCThenXYZ viewXYZThenABC withLosses (all-fair .to-two) refl either-order
 
 -- Once the last number is applied every further numbered message answers 6, so that a feed that is given goes on with a clear, and nothing can be lost before it.
 pub after-the-last : (s : Symbol) (i n : ℕ) (e : Effect) → s .entry .standing .stale ≡ false → s .entry .standing .expected ≡ last + 1 → n ≤ last → meeting s (numbered i n e) .answer ≡ 6
@@ -129,11 +138,11 @@ pub record WithABC : Type 0 where
   pub book : Book
   pub has : HasABC book
 
-registers-ABC : (b : Book) → Fresh b → WithABC
+registers-ABC : (b : Book) → Fresh Market.Nyse b → WithABC
 unfolding firstWhere nameBad
 registers-ABC b f =
     let e = some-entered index name scale (omega arith) refl in
     record { book = with b (e .result); has = registered f (registering-steps b index name scale (e .result) (rw (f .names) (e .registers))) }
 
 pub some-has-ABC : WithABC
-some-has-ABC = registers-ABC _ fresh
+some-has-ABC = registers-ABC _ (fresh Market.Nyse)

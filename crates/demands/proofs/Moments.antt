@@ -4,6 +4,7 @@ use native.Mathlib.Omega.{arith}
 use mathlib.Core.List.{List}
 use mathlib.Core.Option.{Option, none, some}
 use mathlib.Core.Path.{_≡_, refl}
+use Rattle.wire.specs.declared.markets.Market.{Market}
 use Rattle.feed.specs.Reader.{Act}
 use Rattle.feed.specs.Feed.{Item, Feed, _▷_, heard, lost, Phase, phase}
 use Rattle.feed.specs.Demand3.{Since, here, more, AfterLoss, Stands}
@@ -21,6 +22,7 @@ module _ (b c : Book) where
   before-hears g = record {
     first-began = g .first-began;
     second-began = g .second-began;
+    same-market = g .same-market;
     same-symbols = g .same-symbols;
     complete = g .complete .0;
     applied = g .applied .0;
@@ -32,6 +34,7 @@ module _ (b c : Book) where
   before-loses g = record {
     first-began = g .first-began;
     second-began = g .second-began;
+    same-market = g .same-market;
     same-symbols = g .same-symbols;
     complete = g .complete .0;
     applied = g .applied .0;
@@ -44,26 +47,26 @@ module _ (b c : Book) where
   given-at (then-loses m) g = given-at m (before-loses g)
 
 -- ---- a moment of the feed in messages is a moment of the feed in bytes
-record Found (g : Feed Effect) (f : ByteFeed) : Type 0 where
+record Found (market : Market) (g : Feed Effect) (f : ByteFeed) : Type 0 where
   pub moment : ByteFeed
   pub earlier : Moment moment f
-  pub is : feedOf moment ≡ g
+  pub is : feedOf market moment ≡ g
 
 -- before a message that says nothing the feed is the same
-found-before : (g x : Feed Effect) (it : Item Effect) (f : ByteFeed) (way : Act Effect → Item Effect) → (feedOf f ≡ x → Found g f) → (feedOf f ≡ x ▷ it → Found g f)
-    → (said : Option (Act Effect)) → goesOn (feedOf f) way said ≡ x ▷ it → Found g f
-found-before g x it f way one same none e = same e
-found-before g x it f way one same (some a) e = one (cc)
+found-before : (market : Market) (g x : Feed Effect) (it : Item Effect) (f : ByteFeed) (way : Act Effect → Item Effect) → (feedOf market f ≡ x → Found market g f) → (feedOf market f ≡ x ▷ it → Found market g f)
+    → (said : Option (Act Effect)) → goesOn (feedOf market f) way said ≡ x ▷ it → Found market g f
+found-before market g x it f way one same none e = same e
+found-before market g x it f way one same (some a) e = one (cc)
 
-found-more : (g x : Feed Effect) (it : Item Effect) → ((f : ByteFeed) → feedOf f ≡ x → Found g f) → (f : ByteFeed) → feedOf f ≡ x ▷ it → Found g f
+found-more : (market : Market) (g x : Feed Effect) (it : Item Effect) → ((f : ByteFeed) → feedOf market f ≡ x → Found market g f) → (f : ByteFeed) → feedOf market f ≡ x ▷ it → Found market g f
 unfolding feedOf
-found-more g x it ih begins e = absurd (let z : _≡_ {A = ℕ} 0 1 = cc in omega arith)
-found-more g x it ih (hears f m) e = let i = found-before g x it f heard (ih f) (found-more g x it ih f) (actIn m) e in record { moment = i .moment; earlier = then-hears (i .earlier); is = i .is }
-found-more g x it ih (loses f m) e = let i = found-before g x it f lost (ih f) (found-more g x it ih f) (actIn m) e in record { moment = i .moment; earlier = then-loses (i .earlier); is = i .is }
+found-more market g x it ih begins e = absurd (let z : _≡_ {A = ℕ} 0 1 = cc in omega arith)
+found-more market g x it ih (hears f m) e = let i = found-before market g x it f heard (ih f) (found-more market g x it ih f) (actIn market m) e in record { moment = i .moment; earlier = then-hears (i .earlier); is = i .is }
+found-more market g x it ih (loses f m) e = let i = found-before market g x it f lost (ih f) (found-more market g x it ih f) (actIn market m) e in record { moment = i .moment; earlier = then-loses (i .earlier); is = i .is }
 
-found : {P : Item Effect → Type 0} {g x : Feed Effect} → Since P g x → (f : ByteFeed) → feedOf f ≡ x → Found g f
-found here f e = record { moment = f; earlier = now; is = e }
-found {g = g} (more {f = x} {it = it} r p) f e = found-more g x it (found r) f e
+found : (market : Market) {P : Item Effect → Type 0} {g x : Feed Effect} → Since P g x → (f : ByteFeed) → feedOf market f ≡ x → Found market g f
+found market here f e = record { moment = f; earlier = now; is = e }
+found market {g = g} (more {f = x} {it = it} r p) f e = found-more market g x it (found market r) f e
 
 -- the moment just before a loss
 earlier-still : {k f : ByteFeed} {m : List ℕ} → Moment (loses k m) f → Moment k f
@@ -76,25 +79,25 @@ before-heard now = then-hears now
 before-heard (then-hears p) = then-hears (before-heard p)
 before-heard (then-loses p) = then-loses (before-heard p)
 
-module _ (index : ℕ) (f : ByteFeed) where
-  before-loss : (h : Feed Effect) (message : _) → AfterLoss index h (feedOf f) → (k : ByteFeed) → Moment k f → feedOf k ≡ h ▷ lost message → Stage index f
+module _ (market : Market) (index : ℕ) (f : ByteFeed) where
+  before-loss : (h : Feed Effect) (message : _) → AfterLoss index h (feedOf market f) → (k : ByteFeed) → Moment k f → feedOf market k ≡ h ▷ lost message → Stage market index f
   unfolding feedOf
   before-loss h message a begins p e = absurd (let z : _≡_ {A = ℕ} 0 1 = cc in omega arith)
-  before-loss h message a (hears k m) p e = go (before-loss h message a k (before-heard p)) (actIn m) e
+  before-loss h message a (hears k m) p e = go (before-loss h message a k (before-heard p)) (actIn market m) e
     where
-      go : (feedOf k ≡ h ▷ lost message → Stage index f) → (said : Option (Act Effect)) → goesOn (feedOf k) heard said ≡ h ▷ lost message → Stage index f
+      go : (feedOf market k ≡ h ▷ lost message → Stage market index f) → (said : Option (Act Effect)) → goesOn (feedOf market k) heard said ≡ h ▷ lost message → Stage market index f
       go ih none q = ih q
       go ih (some x) q = absurd (let i : heard x ≡ lost message = cc in let z : _≡_ {A = ℕ} 0 1 = cc in omega arith)
-  before-loss h message a (loses k m) p e = go (before-loss h message a k (earlier-still p)) (actIn m) e
+  before-loss h message a (loses k m) p e = go (before-loss h message a k (earlier-still p)) (actIn market m) e
     where
-      go : (feedOf k ≡ h ▷ lost message → Stage index f) → (said : Option (Act Effect)) → goesOn (feedOf k) lost said ≡ h ▷ lost message → Stage index f
+      go : (feedOf market k ≡ h ▷ lost message → Stage market index f) → (said : Option (Act Effect)) → goesOn (feedOf market k) lost said ≡ h ▷ lost message → Stage market index f
       go ih none q = ih q
-      go ih (some x) q = let i : feedOf k ≡ h = cc in after-loss (earlier-still p) (rw i a)
+      go ih (some x) q = let i : feedOf market k ≡ h = cc in after-loss (earlier-still p) (rw i a)
 
-  pub every-moment : Stage index f
-  every-moment = go (phase index (feedOf f)) (words.every-moment index (feedOf f))
+  pub every-moment : Stage market index f
+  every-moment = go (phase index (feedOf market f)) (words.every-moment index (feedOf market f))
     where
-      go : (p : Phase Effect) → Stands index (feedOf f) p → Stage index f
+      go : (p : Phase Effect) → Stands index (feedOf market f) p → Stage market index f
       go _ (feed.none-lost n) = none-lost n
-      go _ (feed.after-loss {h = h} a) = let x = found (a .since) f refl in before-loss h (a .message) a (x .moment) (x .earlier) (x .is)
+      go _ (feed.after-loss {h = h} a) = let x = found market (a .since) f refl in before-loss h (a .message) a (x .moment) (x .earlier) (x .is)
       go _ (feed.until-clear u) = until-clear u

@@ -1,5 +1,6 @@
 -- A promise speaks of the view alone, so the same calls leave the same views, and states with equal views answer alike.
 use mathlib.Core.Path.{_≡_, refl, sym, _∙_}
+use Rattle.wire.specs.declared.markets.Market.{Market}
 use Rattle.book.specs.State.{view, Wf, Fresh}
 use Rattle.book.specs.Reached.{Alike}
 use Rattle.book.specs.declared.Book.{Book}
@@ -26,12 +27,12 @@ together-same (ran {s = bytes} {at = at} {q = q} {r = r} t p m) =
     let s = together-same t in
     record { left = p .obeys (s .left) .wf; right = m .obeys (s .right) .wf; views = same-alike s .running bytes at q r p m .2 }
 
-one-new : (a b : Book) → Fresh a → Fresh b → a ≡ b
-one-new a b f g = λ i. record { symbols = (f .names ∙ sym (g .names)) i; orders = (f .orders ∙ sym (g .orders)) i; trades = (f .trades ∙ sym (g .trades)) i }
+one-new : (market : Market) (a b : Book) → Fresh market a → Fresh market b → a ≡ b
+one-new market a b f g = λ i. record { symbols = (f .names ∙ sym (g .names)) i; orders = (f .orders ∙ sym (g .orders)) i; trades = (f .trades ∙ sym (g .trades)) i; market = (f .market ∙ sym (g .market)) i }
 
 pub one-outcome : OneOutcome
 one-outcome = record {
-  new = λ {a = a} {b = b} f g. one-new a b f g;
+  new = λ {a = a} {b = b} {market = market} f g. one-new market a b f g;
   each-call = λ {b = b} p. alike b b (reached-wf p) (reached-wf p) refl;
   ever-after = λ t. same-alike (together-same t);
 }

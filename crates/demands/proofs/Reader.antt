@@ -5,8 +5,7 @@ use mathlib.Core.Path.{_≡_, refl, ap}
 use Prim.Native.Nat.{ℕ}
 use Rattle.feed.specs.Reader.{Ruling, unchanged, made-stale, applied, replied, Act, clearing, numbered, indexOf, Reader, answerOf, afterOf}
 use Rattle.feed.specs.Reader as feed
-use Rattle.symbols.specs.State.{placeOf}
-use Rattle.book.specs.State.{Symbol, View, entryOf, symbolIn}
+use Rattle.book.specs.State.{Symbol, View, placeIn, symbolIn}
 use Rattle.book.specs.Step.{dealOf, enacted, meeting, actAt, actOn}
 use Rattle.book.specs.Quote.{quoted, quoteOf}
 use Rattle.book.proofs.Isolation.{unregistered-stays, own-symbol, own-symbol-only}
@@ -41,7 +40,7 @@ module _ (v : View) (m : Act Effect) where
   unfolding actOn keptIn answerOf
   says = go (symbolIn (indexOf m) v)
     where
-      go : (x : Option Symbol) → actAt v (placeOf entryOf (indexOf m) v) x m .answer ≡ answerOf pillar (keptIf x) m
+      go : (x : Option Symbol) → actAt v (placeIn (indexOf m) v) x m .answer ≡ answerOf pillar (keptIf x) m
       go none = refl
       go (some s) = meeting-answers s m
 

@@ -8,7 +8,7 @@ use Rattle.wire.specs.Reading.{readOf}
 use Rattle.places.specs.Places.{among}
 use Rattle.book.specs.State.{View}
 use Rattle.book.specs.Promises.{unchanging}
-use Rattle.book.specs.Step.{stepOf}
+use Rattle.book.specs.Step.{stepIn}
 use Rattle.book.specs.Walk.{stepsOf, Moves}
 use Rattle.book.specs.declared.Book.{Book}
 use Rattle.book.specs.declared.walk.Moved.{Moved}
@@ -31,12 +31,12 @@ pub refused-changes-nothing : {b : Book} {s : List ℕ} {at : ℕ} {r : Moved} �
 refused-changes-nothing {r = r} m least most = m .kept (one-to-five (r .answer) least most)
 
 -- and a run over a stream with such a message leaves what a run without it does
-pub refused-acts-as-lost : (v : View) (ms ns : List (List ℕ)) (m : List ℕ) → 1 ≤ stepOf (stepsOf v ms) (readOf m) .answer → stepOf (stepsOf v ms) (readOf m) .answer ≤ 5
+pub refused-acts-as-lost : (v : View) (ms ns : List (List ℕ)) (m : List ℕ) → 1 ≤ stepIn (stepsOf v ms) m .answer → stepIn (stepsOf v ms) m .answer ≤ 5
     → stepsOf v (ms ++ m ∷ ns) ≡ stepsOf v (ms ++ ns)
 unfolding stepsOf
 refused-acts-as-lost v ms ns m least most =
     steps-join v ms (m ∷ ns)
-    ∙ ap (λ (w : View). stepsOf w ns) (refused-view (stepsOf v ms) (readOf m) (one-to-five (stepOf (stepsOf v ms) (readOf m) .answer) least most))
+    ∙ ap (λ (w : View). stepsOf w ns) (refused-view (stepsOf v ms) (readOf (stepsOf v ms .market) m) (one-to-five (stepIn (stepsOf v ms) m .answer) least most))
     ∙ sym (steps-join v ms ns)
 
 -- so of a stream only what counts does something; and all may count
@@ -48,4 +48,4 @@ counted-steps (acts-as-lost {v = v} {ms = ms} {ns = ns} {m = m} least most c) = 
 
 pub all-count : (v : View) (ms : List (List ℕ)) → Counted v ms ms
 all-count v [] = no-more
-all-count v (m ∷ ms) = counts (all-count (stepOf v (readOf m) .view) ms)
+all-count v (m ∷ ms) = counts (all-count (stepIn v m .view) ms)

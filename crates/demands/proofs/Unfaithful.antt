@@ -8,6 +8,7 @@ use Rattle.wire.specs.Bytes.{value, littleEndian}
 use Rattle.wire.specs.Table.{shapeOf}
 use Rattle.wire.specs.Fields.{firstBad, faultOf}
 use Rattle.wire.specs.Reading.{reachBy, reachOf, readBy, readBody, readSized, readShape, readTyped, readReached, readOf}
+use Rattle.wire.specs.declared.markets.Market.{Market}
 use Rattle.feed.specs.Book.{fitted, bookAfter, bookOf}
 use Rattle.feed.specs.Demand3.{here, more, at-start, NotLost, NoneLost}
 use Rattle.places.specs.Places.{firstWhere, fold, sumBy, insert, look}
@@ -15,6 +16,7 @@ use Rattle.symbols.specs.State.{placeOf, foundIn, vacancyOf}
 use Rattle.orders.specs.Rules.{applyTo}
 use Rattle.symbols.specs.Registering as registering
 use Rattle.symbols.specs.Registering.{nameBad}
+use Rattle.book.specs.State.{View, view}
 use Rattle.book.specs.Step.{meant}
 use Rattle.orders.specs.Levels.{bestStep, sharesAt, levelOf}
 use Rattle.book.specs.Quote.{noQuote, quotedIf, quoteOf}
@@ -30,10 +32,10 @@ use Rattle.demands.proofs.Examples.{has-view, given-one-add}
 
 -- by computation: the book of the feed, and what is quoted before it
 record Computed : Type 0 where
-  pub book : quotedIf false (bookOf pillar index (feedOf oneAdd)) ≡ shows (200 at 1234500) no-level
+  pub book : quotedIf false (bookOf pillar index (feedOf Market.Nyse oneAdd)) ≡ shows (200 at 1234500) no-level
   pub before : quoteOf index viewABC ≡ shows no-level no-level
   pub registered : Registered index viewABC
-  pub none-lost : NoneLost index (feedOf oneAdd)
+  pub none-lost : NoneLost index (feedOf Market.Nyse oneAdd)
 
 computed : Computed
 unfolding feedOf bookOf bookAfter fitted NotLost quoteOf levelOf bestStep sharesAt fold sumBy value littleEndian shapeOf firstBad faultOf reachBy reachOf readBy readBody readSized readShape readTyped readReached readOf firstWhere insert look placeOf foundIn vacancyOf applyTo nameBad registering.registered meant
@@ -43,8 +45,9 @@ module _ (Takes : Book → List (List ℕ) → Book → Type 0) {b c : Book} (de
   -- whatever way a reader takes messages, one that meets the demand shows the add
   pub shows-an-add : {first second : Book} → Takes b (sent oneAdd) first → Takes c (delivered oneAdd) second → quoteIn second index ≡ shows (200 at 1234500) no-level
   shows-an-add all rest =
-      demand oneAdd _ _ (record { given = given-one-add p q; all = all; rest = rest }) .quotes-the-book index (rw (has-view p) (computed .registered)) (computed .none-lost)
-      ∙ computed .book
+      let nyse : view b .market ≡ Market.Nyse = ap (λ (v : View). v .market) (has-view p) in
+      demand oneAdd _ _ (record { given = given-one-add p q; all = all; rest = rest }) .quotes-the-book index (rw (has-view p) (computed .registered)) (rw nyse (computed .none-lost))
+      ∙ ap (λ (market : Market). quotedIf false (bookOf pillar index (feedOf market oneAdd))) nyse ∙ computed .book
 
   -- so it is none that calls the symbol stale
   pub no-stale-readers : {first second : Book} → Takes b (sent oneAdd) first → Takes c (delivered oneAdd) second → quoteIn second index ≡ noQuote 8 → ⊥

@@ -6,10 +6,11 @@ use mathlib.Core.Path.{_≡_}
 use Rattle.wire.specs.Outcome.{Outcome, done, refused}
 use Rattle.wire.specs.Reading.{msgType, readOf}
 use Rattle.wire.specs.declared.Message.{Message}
+use Rattle.wire.specs.declared.markets.Market.{Market}
 use Rattle.feed.specs.Reader.{Act}
 use Rattle.feed.specs.Feed.{Item, Feed, start, _▷_, heard, lost}
 use Rattle.book.specs.State.{View}
-use Rattle.book.specs.Step.{stepOf, meant}
+use Rattle.book.specs.Step.{meant, stepIn}
 use Rattle.book.specs.Walk.{CompleteMessage, stepsOf}
 use Rattle.demands.specs.Reader.{Effect}
 
@@ -45,7 +46,7 @@ Complete (loses f m) = Complete f × CompleteMessage m
 
 -- a reader that receives all of it applies it without one refusal
 abbrev pub IsDone : View → List (List ℕ) → List ℕ → Type 0
-IsDone v ms m = stepOf (stepsOf v ms) (readOf m) .answer ≡ 0
+IsDone v ms m = stepIn (stepsOf v ms) m .answer ≡ 0
 
 unfoldable pub Applied : View → ByteFeed → Type 0
 Applied v begins = Unit {0}
@@ -59,20 +60,20 @@ ClearsDelivered (hears f m) = ClearsDelivered f
 ClearsDelivered (loses f m) = ClearsDelivered f × (msgType m ≡ 32 → ⊥)
 
 -- ---- the same feed in the words of `feed`
--- what a message says: nothing, where reading refuses it
+-- what a message of a market says: nothing, where reading refuses it
 abbrev pub said : Outcome Message → Option (Act Effect)
 said (done m) = some (meant m)
 said (refused n) = none
 
-abbrev pub actIn : List ℕ → Option (Act Effect)
-actIn m = said (readOf m .outcome)
+abbrev pub actIn : Market → List ℕ → Option (Act Effect)
+actIn market m = said (readOf market m .outcome)
 
 -- a feed and then what is said; where nothing is, the feed as it was
 abbrev pub goesOn : Feed Effect → (Act Effect → Item Effect) → Option (Act Effect) → Feed Effect
 goesOn f way none = f
 goesOn f way (some a) = f ▷ way a
 
-unfoldable pub feedOf : ByteFeed → Feed Effect
-feedOf begins = start
-feedOf (hears f m) = goesOn (feedOf f) heard (actIn m)
-feedOf (loses f m) = goesOn (feedOf f) lost (actIn m)
+unfoldable pub feedOf : Market → ByteFeed → Feed Effect
+feedOf market begins = start
+feedOf market (hears f m) = goesOn (feedOf market f) heard (actIn market m)
+feedOf market (loses f m) = goesOn (feedOf market f) lost (actIn market m)

@@ -14,6 +14,7 @@ use Rattle.wire.specs.Writing.{Write, countOf, Fills, writeOf}
 use Rattle.wire.specs.Message.{badFieldOf}
 use Rattle.wire.specs.FirstBad.{FirstBadIn, FirstBadOf, Locates}
 use Rattle.wire.specs.declared.Message.{Message}
+use Rattle.wire.specs.declared.markets.Market.{Market}
 use Rattle.feed.specs.Reader.{indexOf}
 use Rattle.places.specs.Places.{among, sumBy}
 use Rattle.symbols.specs.State.{nameBytes, Entry}
@@ -61,9 +62,9 @@ pub record Answers (numbers : List ℕ) (rule answer : ℕ) : Type 0 where
 -- `wire`: how far a message reaches, reading one, testing the fields of one, and writing one, whose type is always known
 pub record WireNumbers : Type 0 where
   pub reaching : (s : List ℕ) → OneOf (0 ∷ 1 ∷ 2 ∷ []) (numberOf (reachOf s))
-  pub reading : (s : List ℕ) → OneOf (0 ∷ 1 ∷ 2 ∷ 3 ∷ 4 ∷ []) (numberOf (readOf s .outcome))
-  pub testing : (m : Message) → OneOf (0 ∷ 4 ∷ []) (numberOf (badFieldOf m .outcome))
-  pub writing : (m : Message) (plain out : List ℕ) → OneOf (0 ∷ 4 ∷ 15 ∷ []) (numberOf (writeOf m plain out .outcome))
+  pub reading : (market : Market) (s : List ℕ) → OneOf (0 ∷ 1 ∷ 2 ∷ 3 ∷ 4 ∷ []) (numberOf (readOf market s .outcome))
+  pub testing : (market : Market) (m : Message) (plain : List ℕ) → OneOf (0 ∷ 4 ∷ []) (numberOf (badFieldOf market m plain .outcome))
+  pub writing : (market : Market) (m : Message) (plain out : List ℕ) → OneOf (0 ∷ 4 ∷ 15 ∷ []) (numberOf (writeOf market m plain out .outcome))
 
 -- `book`: registering, a message, a run, and the questions
 pub record BookNumbers (b : Book) : Type 0 where
@@ -83,25 +84,25 @@ pub record RoomNumbers : Type 0 where
 
 -- `page`: a line, a laying, and the end
 pub record PageNumbers (b : Book) : Type 0 where
-  pub printing : (m : Message) (plain : List ℕ) (sequence second : ℕ) (out : List ℕ) → OneOf (0 ∷ 3 ∷ 4 ∷ 5 ∷ 14 ∷ 15 ∷ []) (numberOf (lineOf (told b m) m plain sequence second out .outcome))
+  pub printing : (m : Message) (plain : List ℕ) (sequence second : ℕ) (out : List ℕ) → OneOf (0 ∷ 3 ∷ 4 ∷ 5 ∷ 14 ∷ 15 ∷ []) (numberOf (lineOf (view b .market) (told b m) m plain sequence second out .outcome))
   pub laying : {stream before after : List ℕ} {at place second : ℕ} {r : Laid} → Lays b stream at place second before r after → OneOf (1 ∷ 2 ∷ 14 ∷ 15 ∷ []) (r .answer)
   pub ending : (index answer : ℕ) (out : List ℕ) → OneOf (0 ∷ 15 ∷ []) (numberOf (laid (closing (view b) index answer) out .outcome))
 
 -- ---- where a bad field stands: where there is one, 4 is answered with the offset of the first one in its message; with every other number the offset is 0. A run hands
 -- back no 4, nor does a laying
 -- a message stands at the position, and its first bad field at this offset in it
-pub record BadThere (s : List ℕ) (at offset : ℕ) : Type 0 where
+pub record BadThere (market : Market) (s : List ℕ) (at offset : ℕ) : Type 0 where
   pub bytes : List ℕ
   pub stands : StandsAt s at bytes
-  pub first : FirstBadIn bytes offset
+  pub first : FirstBadIn market bytes offset
 
 pub record Offsets (b : Book) : Type 0 where
-  pub reading : (s : List ℕ) → Locates (FirstBadIn s) (numberOf (readOf s .outcome)) (readOf s .offset)
-  pub testing : (m : Message) → Locates (FirstBadOf m) (numberOf (badFieldOf m .outcome)) (badFieldOf m .offset)
-  pub writing : (m : Message) (plain out : List ℕ) → Locates (FirstBadOf m) (numberOf (writeOf m plain out .outcome)) (writeOf m plain out .offset)
+  pub reading : (market : Market) (s : List ℕ) → Locates (FirstBadIn market s) (numberOf (readOf market s .outcome)) (readOf market s .offset)
+  pub testing : (market : Market) (m : Message) (plain : List ℕ) → Locates (FirstBadOf market m plain) (numberOf (badFieldOf market m plain .outcome)) (badFieldOf market m plain .offset)
+  pub writing : (market : Market) (m : Message) (plain out : List ℕ) → Locates (FirstBadOf market m plain) (numberOf (writeOf market m plain out .outcome)) (writeOf market m plain out .offset)
   pub printing : (m : Message) (plain : List ℕ) (sequence second : ℕ) (out : List ℕ)
-      → Locates (FirstBadOn m) (numberOf (lineOf (told b m) m plain sequence second out .outcome)) (lineOf (told b m) m plain sequence second out .offset)
-  pub applying : {s : List ℕ} {at : ℕ} {r : Moved} → Moves b s at r → Locates (BadThere s at) (r .answer) (r .offset)
+      → Locates (FirstBadOn (view b .market) m plain) (numberOf (lineOf (view b .market) (told b m) m plain sequence second out .outcome)) (lineOf (view b .market) (told b m) m plain sequence second out .offset)
+  pub applying : {s : List ℕ} {at : ℕ} {r : Moved} → Moves b s at r → Locates (BadThere (view b .market) s at) (r .answer) (r .offset)
 
 -- ---- what a refusal leaves
 -- refused, the buffer is as it was and the count 0; done, no byte beyond the count changes
@@ -112,15 +113,15 @@ pub record Printing (w : Write) (out : List ℕ) : Type 0 where
 -- the output: a refused read and a refused write
 pub record Buffers : Type 0 where
   -- no message is handed back, and zeros for its byte array
-  pub reading : (s : List ℕ) (number : ℕ) → readOf s .outcome ≡ refused number → readOf s .plain ≡ replicate plainRoom 0
+  pub reading : (market : Market) (s : List ℕ) (number : ℕ) → readOf market s .outcome ≡ refused number → readOf market s .plain ≡ replicate plainRoom 0
   -- the buffer is as it was, and the count 0
-  pub writing : (m : Message) (plain out : List ℕ) (number : ℕ) → writeOf m plain out .outcome ≡ refused number → (writeOf m plain out .out ≡ out) × (countOf (writeOf m plain out .outcome) ≡ 0)
+  pub writing : (market : Market) (m : Message) (plain out : List ℕ) (number : ℕ) → writeOf market m plain out .outcome ≡ refused number → (writeOf market m plain out .out ≡ out) × (countOf (writeOf market m plain out .outcome) ≡ 0)
   -- refused or done, no byte beyond the count changes
-  pub beyond : (m : Message) (plain out : List ℕ) → length plain ≡ plainRoom → Fills out (writeOf m plain out)
+  pub beyond : (market : Market) (m : Message) (plain out : List ℕ) → length plain ≡ plainRoom → Fills out (writeOf market m plain out)
 
 -- the page: a refused line or end leaves the buffer as it was, with the count 0, and a done one every byte beyond its count
 pub record Pages (b : Book) : Type 0 where
-  pub printing : (m : Message) (plain : List ℕ) (sequence second : ℕ) (out : List ℕ) → Printing (lineOf (told b m) m plain sequence second out) out
+  pub printing : (m : Message) (plain : List ℕ) (sequence second : ℕ) (out : List ℕ) → Printing (lineOf (view b .market) (told b m) m plain sequence second out) out
   pub ending : (index answer : ℕ) (out : List ℕ) → Printing (laid (closing (view b) index answer) out) out
   -- a laying past the last second of the day hands back the state that came in, the position and the place, and leaves the buffer
   pub late : {stream before after : List ℕ} {at place second : ℕ} {r : Laid} → Lays b stream at place second before r after → r .answer ≡ 14
@@ -135,7 +136,7 @@ pub record LeavesStale (b : Book) (s : List ℕ) (at : ℕ) (r : Moved) : Type 0
   pub bytes : List ℕ
   pub stands : StandsAt s at bytes
   pub message : Message
-  pub read : readOf bytes .outcome ≡ done message
+  pub read : readOf (view b .market) bytes .outcome ≡ done message
   pub stale : BecomesStale (view b) (indexOf (meant message)) (view (r .book))
 
 -- the book and the trade record, by the number that a message is refused with

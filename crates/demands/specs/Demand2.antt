@@ -15,25 +15,28 @@ use Rattle.wire.specs.Writing.{writeOf}
 use Rattle.wire.specs.RoundTrip.{InRange, Bytes, ReadsBack, WritesBack}
 use Rattle.wire.specs.declared.Head.{Head}
 use Rattle.wire.specs.declared.Message.{Message}
+use Rattle.wire.specs.declared.markets.Market.{Market}
 use Rattle.feed.specs.Reader.{indexOf}
 use Rattle.places.specs.Places.{count, sumBy}
 use Rattle.orders.specs.State.{ordersEach, orderNumber}
 use Rattle.record.specs.State.{tradesEach, tradeNumber}
 use Rattle.book.specs.State.{Symbol, view, symbolIn, liveIn}
-use Rattle.book.specs.Promises.{Obeys}
+use Rattle.book.specs.Promises.{Obeys, Steps}
+use Rattle.book.specs.Registering.{registerOf}
 use Rattle.orders.specs.Levels.{counts, sharesAt, NoBetter, Attained, TakesOff}
 use Rattle.book.specs.Quote.{sideOf, volumeOf}
 use Rattle.book.specs.Step.{buys, meant}
 use Rattle.book.specs.Walk.{moveOf, walkOf, runOf, Moves, Runs}
 use Rattle.book.specs.declared.Book.{Book}
+use Rattle.book.specs.declared.Done.{Done}
 use Rattle.orders.specs.declared.levels.Level.{Level}
 use Rattle.book.specs.declared.walk.Moved.{Moved}
 use Rattle.book.specs.declared.walk.Ran.{Ran}
 use Rattle.demands.specs.Demand3.{StandsAt, quoteIn}
 
 -- the message is not for the symbol; one that reading refuses is for nobody
-abbrev pub NotFor : ℕ → List ℕ → Type 0
-NotFor index m = (x : Message) → readOf m .outcome ≡ done x → index ≢ indexOf (meant x)
+abbrev pub NotFor : Market → ℕ → List ℕ → Type 0
+NotFor market index m = (x : Message) → readOf market m .outcome ≡ done x → index ≢ indexOf (meant x)
 
 -- ---- of a state: what it quotes and holds of a symbol
 pub record OfSymbol (b : Book) (index : ℕ) (s : Symbol) : Type 0 where
@@ -56,20 +59,22 @@ pub record OfMessage (b : Book) (s : List ℕ) (at : ℕ) (r : Moved) : Type 0 w
   -- it does what document 01 says: the next view and the answer are those of the rule
   pub effects : Obeys (moveOf (view b) s at) (r .book) (r .answer)
   -- case D's rule: an add that is done at the best price raises the quoted size by its volume
-  pub case-d : {m : List ℕ} (head : Head) (order price volume side size : ℕ) → StandsAt s at m → readOf m .outcome ≡ done (Message.Add head order price volume side) → r .answer ≡ 0
+  pub case-d : {m : List ℕ} (head : Head) (order price volume side size : ℕ) → StandsAt s at m → readOf (view b .market) m .outcome ≡ done (Message.Add head order price volume side) → r .answer ≡ 0
       → sideOf (buys side) (quoteIn b (head .index)) ≡ Level.Best price size → sideOf (buys side) (quoteIn (r .book) (head .index)) ≡ Level.Best price (size + volume)
   -- an execution that is done takes its volume off at the price and side of its order, which was live, whatever the price of the trade; the sum at every other stays
-  pub execution : {m : List ℕ} (head : Head) (order trade price volume printable : ℕ) → StandsAt s at m → readOf m .outcome ≡ done (Message.Execute head order trade price volume printable) → r .answer ≡ 0
+  pub execution : {m : List ℕ} (head : Head) (order trade price volume printable : ℕ) → StandsAt s at m → readOf (view b .market) m .outcome ≡ done (Message.Execute head order trade price volume printable) → r .answer ≡ 0
       → TakesOff order volume (liveIn (head .index) (view b)) (liveIn (head .index) (view (r .book)))
   -- a message for one symbol changes nothing kept for another: orders, record, mark, number, name and scale; nor does a refusal
-  pub others-unchanged : (index : ℕ) → ((m : List ℕ) → StandsAt s at m → NotFor index m) → symbolIn index (view (r .book)) ≡ symbolIn index (view b)
+  pub others-unchanged : (index : ℕ) → ((m : List ℕ) → StandsAt s at m → NotFor (view b .market) index m) → symbolIn index (view (r .book)) ≡ symbolIn index (view b)
   -- a record that has lost its mark does not get it back
   pub mark-stays-lost : (index : ℕ) → volumeOf index (view b) .whole ≡ false → volumeOf index (view (r .book)) .whole ≡ false
+  -- the state is of the market that it was made for
+  pub market-stays : view (r .book) .market ≡ view b .market
 
 -- ---- of a run: each message in turn
-abbrev pub AllNotFor : ℕ → List (List ℕ) → Type 0
-AllNotFor index [] = Unit {0}
-AllNotFor index (m ∷ ms) = NotFor index m × AllNotFor index ms
+abbrev pub AllNotFor : Market → ℕ → List (List ℕ) → Type 0
+AllNotFor market index [] = Unit {0}
+AllNotFor market index (m ∷ ms) = NotFor market index m × AllNotFor market index ms
 
 pub record OfRun (b : Book) (s : List ℕ) (from : ℕ) (r : Ran) : Type 0 where
   pub effects : Obeys (runOf (view b) s from) (r .book) (r .answer)
@@ -77,16 +82,19 @@ pub record OfRun (b : Book) (s : List ℕ) (from : ℕ) (r : Ran) : Type 0 where
   pub position : r .at ≡ from + sumBy msgSize (walkOf s from .messages)
   -- and the bytes there are why it stopped
   pub stopped : reachOf (drop (r .at) s) ≡ refused (r .answer)
-  pub others-unchanged : (index : ℕ) → AllNotFor index (walkOf s from .messages) → symbolIn index (view (r .book)) ≡ symbolIn index (view b)
+  pub others-unchanged : (index : ℕ) → AllNotFor (view b .market) index (walkOf s from .messages) → symbolIn index (view (r .book)) ≡ symbolIn index (view b)
   pub mark-stays-lost : (index : ℕ) → volumeOf index (view b) .whole ≡ false → volumeOf index (view (r .book)) .whole ≡ false
+  pub market-stays : view (r .book) .market ≡ view b .market
 
 -- DEMAND 2, for every state that the calls can be given
 pub record Demand2 (b : Book) : Type 0 where
   pub symbols : (index : ℕ) (s : Symbol) → symbolIn index (view b) ≡ some s → OfSymbol b index s
   pub messages : {s : List ℕ} {at : ℕ} {r : Moved} → Moves b s at r → OfMessage b s at r
   pub runs : {s : List ℕ} {from : ℕ} {r : Ran} → Runs b s from r → OfRun b s from r
+  -- and registering leaves the market too
+  pub market-stays : {r : Done} (index : ℕ) (name : List ℕ) (scale : ℕ) → Steps b (registerOf (view b) index name scale) r → view (r .book) .market ≡ view b .market
 
--- and of the messages alone: what is written is read as the same message, and what is read is written as the same bytes, where the reserved ones are zero
+-- and of the messages alone, under every market: what is written is read as the same message, and what is read is written as the same bytes, where the reserved ones are zero
 pub record RoundTrips : Type 0 where
-  pub read-what-was-written : (m : Message) (plain out : List ℕ) → length plain ≡ plainRoom → InRange (fieldsOf m) → ReadsBack m plain (writeOf m plain out)
-  pub write-what-was-read : (s : List ℕ) → Bytes s → WritesBack s (readOf s)
+  pub read-what-was-written : (market : Market) (m : Message) (plain out : List ℕ) → length plain ≡ plainRoom → InRange (fieldsOf m) → ReadsBack market m plain (writeOf market m plain out)
+  pub write-what-was-read : (market : Market) (s : List ℕ) → Bytes s → WritesBack market s (readOf market s)

@@ -7,7 +7,8 @@ use mathlib.Core.Option.{some}
 use mathlib.Core.Path.{_≡_}
 use lib.ListN.{take, drop}
 use Rattle.wire.specs.Outcome.{done}
-use Rattle.wire.specs.Reading.{reachOf, readOf}
+use Rattle.wire.specs.Reading.{reachOf}
+use Rattle.wire.specs.declared.markets.Market.{Market}
 use Rattle.feed.specs.Reader.{Act, clearing, indexOf}
 use Rattle.feed.specs.Feed.{Feed, _▷_, heard, phase}
 use Rattle.feed.specs.Book.{bookOf}
@@ -15,7 +16,7 @@ use Rattle.feed.specs.Demand3.{NoneLost, AfterLoss, UntilClear, Since, NotLost,
 use Rattle.book.specs.State.{View, view, Fresh}
 use Rattle.book.specs.Promises.{Steps}
 use Rattle.book.specs.Registering.{registerOf}
-use Rattle.book.specs.Step.{stepOf}
+use Rattle.book.specs.Step.{stepIn}
 use Rattle.book.specs.Quote.{noQuote, quotedIf, quoteOf}
 use Rattle.book.specs.Walk.{walkOf, Moves, Runs}
 use Rattle.book.specs.declared.Book.{Book}
@@ -29,7 +30,7 @@ use Rattle.demands.specs.ByteFeed.{ByteFeed, begins, hears, loses, sent,
 -- ---- the states of a reader, by the promises of the calls that hand them back
 -- a new state with symbols registered, in any order and whatever registering answers
 pub data Began : Book → Type 0 where
-  new : {b : Book} → Fresh b → Began b
+  new : {b : Book} {market : Market} → Fresh market b → Began b
   registers : {b : Book} {r : Done} (index : ℕ) (name : List ℕ) (scale : ℕ) → Began b → Steps b (registerOf (view b) index name scale) r → Began (r .book)
 
 -- a message m stands at a position of a slice
@@ -41,8 +42,8 @@ pub record StandsAt (s : List ℕ) (at : ℕ) (m : List ℕ) : Type 0 where
 -- of the messages ns of a stream those that count are ms: the others are refused with 1 to 5, and act as lost
 pub data Counted : View → List (List ℕ) → List (List ℕ) → Type 0 where
   no-more : {v : View} → Counted v [] []
-  counts : {v : View} {ms ns : List (List ℕ)} {m : List ℕ} → Counted (stepOf v (readOf m) .view) ms ns → Counted v (m ∷ ms) (m ∷ ns)
-  acts-as-lost : {v : View} {ms ns : List (List ℕ)} {m : List ℕ} → 1 ≤ stepOf v (readOf m) .answer → stepOf v (readOf m) .answer ≤ 5 → Counted v ms ns → Counted v ms (m ∷ ns)
+  counts : {v : View} {ms ns : List (List ℕ)} {m : List ℕ} → Counted (stepIn v m .view) ms ns → Counted v (m ∷ ms) (m ∷ ns)
+  acts-as-lost : {v : View} {ms ns : List (List ℕ)} {m : List ℕ} → 1 ≤ stepIn v m .answer → stepIn v m .answer ≤ 5 → Counted v ms ns → Counted v ms (m ∷ ns)
 
 -- a reader in state b is given these messages, by `apply` and `run` at any positions of any slices, and is then in the last state
 pub data Reads (b : Book) : List (List ℕ) → Book → Type 0 where
@@ -55,10 +56,11 @@ pub data Reads (b : Book) : List (List ℕ) → Book → Type 0 where
 pub data RunsOver (b : Book) (ms : List (List ℕ)) : Book → Type 0 where
   ran : {r : Ran} → Runs b (flatten ms) 0 r → RunsOver b ms (r .book)
 
--- ---- what is given: two new readers with the same symbols, and a feed of which a reader that is given all refuses nothing; what is lost of it is numbered
+-- ---- what is given: two new readers of the same market with the same symbols, and a feed of which a reader that is given all refuses nothing; what is lost of it is numbered
 pub record Given (b c : Book) (f : ByteFeed) : Type 0 where
   pub first-began : Began b
   pub second-began : Began c
+  pub same-market : view b .market ≡ view c .market
   pub same-symbols : (index : ℕ) → Registered index (view b) ↔ Registered index (view c)
   pub complete : Complete f
   pub applied : Applied (view b) f
@@ -71,10 +73,10 @@ pub data AnswersZero (b : Book) : ByteFeed → Book → Type 0 where
   to-lost : {f : ByteFeed} {c : Book} {s : List ℕ} {at : ℕ} {m : List ℕ} {r : Moved} → AnswersZero b f c → StandsAt s at m → Moves c s at r → r .answer ≡ 0 → AnswersZero b (loses f m) (r .book)
 
 -- a message that the second reader hears after f says something, and this is the number that belongs to it
-pub record AnsweredAs (f : ByteFeed) (m : List ℕ) (answer : ℕ) : Type 0 where
+pub record AnsweredAs (market : Market) (f : ByteFeed) (m : List ℕ) (answer : ℕ) : Type 0 where
   pub act : Act Effect
-  pub says : actIn m ≡ some act
-  pub number : answer ≡ answered (phase (indexOf act) (feedOf f)) act
+  pub says : actIn market m ≡ some act
+  pub number : answer ≡ answered (phase (indexOf act) (feedOf market f)) act
 
 -- the contract of `quote` says that it hands back this
 abbrev pub quoteIn : Book → ℕ → Quote
@@ -90,26 +92,26 @@ module _ (Takes : Book → List (List ℕ) → Book → Type 0) (b c : Book) whe
 
   pub record Quotes (f : ByteFeed) (first second : Book) : Type 0 where
     -- none of the symbol's messages lost, counted from its last clear or the start: the second reader quotes as the first does now,
-    pub nothing-lost : (index : ℕ) → NoneLost index (feedOf f) → quoteIn second index ≡ quoteIn first index
+    pub nothing-lost : (index : ℕ) → NoneLost index (feedOf (view b .market) f) → quoteIn second index ≡ quoteIn first index
     -- which is the book that document 01's rules make of the messages,
-    pub quotes-the-book : (index : ℕ) → Registered index (view b) → NoneLost index (feedOf f) → quoteIn second index ≡ quotedIf false (bookOf pillar index (feedOf f))
+    pub quotes-the-book : (index : ℕ) → Registered index (view b) → NoneLost index (feedOf (view b .market) f) → quoteIn second index ≡ quotedIf false (bookOf pillar index (feedOf (view b .market) f))
     -- as it is for the first at every moment
-    pub first-quotes-the-book : (index : ℕ) → Registered index (view b) → quoteIn first index ≡ quotedIf false (bookOf pillar index (feedOf f))
+    pub first-quotes-the-book : (index : ℕ) → Registered index (view b) → quoteIn first index ≡ quotedIf false (bookOf pillar index (feedOf (view b .market) f))
     -- after a loss: it quotes as the first did at h, the moment before the first lost message
-    pub after-a-loss : (index : ℕ) {h : ByteFeed} {before : Book} → Moment h f → Takes b (sent h) before → AfterLoss index (feedOf h) (feedOf f) → quoteIn second index ≡ quoteIn before index
+    pub after-a-loss : (index : ℕ) {h : ByteFeed} {before : Book} → Moment h f → Takes b (sent h) before → AfterLoss index (feedOf (view b .market) h) (feedOf (view b .market) f) → quoteIn second index ≡ quoteIn before index
     -- once it hears a numbered message of the symbol after that, it refuses, until a clear
-    pub refused-until-a-clear : (index : ℕ) → UntilClear index (feedOf f) → quoteIn second index ≡ noQuote 8
+    pub refused-until-a-clear : (index : ℕ) → UntilClear index (feedOf (view b .market) f) → quoteIn second index ≡ noQuote 8
     -- from that clear on, whatever was lost before it, until another loss: it again agrees with the first
-    pub from-that-clear-on : (index : ℕ) {next : ℕ} {h : Feed Effect} → Since (NotLost index) (h ▷ heard (clearing index next)) (feedOf f) → quoteIn second index ≡ quoteIn first index
+    pub from-that-clear-on : (index : ℕ) {next : ℕ} {h : Feed Effect} → Since (NotLost index) (h ▷ heard (clearing index next)) (feedOf (view b .market) f) → quoteIn second index ≡ quoteIn first index
     -- and what it answers to the message m that it hears next: 0 while it agrees, 7 to the first numbered one after a loss, then 8
-    pub answers : {s : List ℕ} {at : ℕ} {m : List ℕ} {r : Moved} → Given b c (hears f m) → StandsAt s at m → Moves second s at r → AnsweredAs f m (r .answer)
+    pub answers : {s : List ℕ} {at : ℕ} {m : List ℕ} {r : Moved} → Given b c (hears f m) → StandsAt s at m → Moves second s at r → AnsweredAs (view b .market) f m (r .answer)
 
   -- DEMAND 3
   abbrev pub Demand3 : Type 0
   Demand3 = (f : ByteFeed) (first second : Book) → Now f first second → Quotes f first second
 
 -- at every moment a symbol stands in one of these, so that one of the clauses says what is quoted (`every-moment`)
-pub data Stage (index : ℕ) (f : ByteFeed) : Type 0 where
-  none-lost : NoneLost index (feedOf f) → Stage index f
-  after-loss : {h : ByteFeed} → Moment h f → AfterLoss index (feedOf h) (feedOf f) → Stage index f
-  until-clear : UntilClear index (feedOf f) → Stage index f
+pub data Stage (market : Market) (index : ℕ) (f : ByteFeed) : Type 0 where
+  none-lost : NoneLost index (feedOf market f) → Stage market index f
+  after-loss : {h : ByteFeed} → Moment h f → AfterLoss index (feedOf market h) (feedOf market f) → Stage market index f
+  until-clear : UntilClear index (feedOf market f) → Stage market index f

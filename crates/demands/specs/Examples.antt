@@ -1,6 +1,7 @@
--- Feeds that demand 3 takes as given, as bytes: one with losses, and two at the last number that a message can carry.
+-- Feeds that demand 3 takes as given, as bytes: one with losses, two at the last number that a message can carry, and one of another market.
 use Prim.Native.Nat.{ℕ}
 use mathlib.Core.List.{List, [], _∷_}
+use Rattle.wire.specs.declared.markets.Market.{Market}
 use Rattle.book.specs.State.{View, newView, view, Fresh}
 use Rattle.book.specs.Promises.{Steps}
 use Rattle.book.specs.Registering.{registerOf}
@@ -10,20 +11,27 @@ use Rattle.book.specs.declared.Book.{Book}
 use Rattle.book.specs.declared.Done.{Done}
 use Rattle.book.specs.declared.quote.Quote.{Quote}
 use Rattle.demands.specs.ByteFeed.{ByteFeed, begins, hears, loses, delivered}
-use Rattle.demands.specs.Messages.{index, buy, sell, add, delete, execute, clear, shows, no-level, _at_}
+use Rattle.demands.specs.Messages.{index, buy, sell, add, delete, executeOn, execute, clear, shows, no-level, _at_}
 
--- a new state with ABC registered, scale 4
+-- a new state of a market with ABC registered, scale 4
 abbrev pub name : List ℕ
 name = 65 ∷ 66 ∷ 67 ∷ []
 
 abbrev pub scale : ℕ
 scale = 4
 
-pub data HasABC : Book → Type 0 where
-  registered : {b : Book} {r : Done} → Fresh b → Steps b (registerOf (view b) index name scale) r → HasABC (r .book)
+pub data HasABCOn (market : Market) : Book → Type 0 where
+  registered : {b : Book} {r : Done} → Fresh market b → Steps b (registerOf (view b) index name scale) r → HasABCOn market (r .book)
+
+abbrev pub viewOn : Market → View
+viewOn market = registerOf (newView market) index name scale .view
+
+-- NYSE's, unless another one is named
+abbrev pub HasABC : Book → Type 0
+HasABC = HasABCOn Market.Nyse
 
 abbrev pub viewABC : View
-viewABC = registerOf newView index name scale .view
+viewABC = viewOn Market.Nyse
 
 -- the same with XYZ, in the two orders of registering
 abbrev pub other : ℕ
@@ -36,7 +44,7 @@ abbrev pub viewABCThenXYZ : View
 viewABCThenXYZ = registerOf viewABC other otherName scale .view
 
 abbrev pub viewXYZThenABC : View
-viewXYZThenABC = registerOf (registerOf newView other otherName scale .view) index name scale .view
+viewXYZThenABC = registerOf (registerOf (newView Market.Nyse) other otherName scale .view) index name scale .view
 
 -- one add, heard
 abbrev pub oneAdd : ByteFeed
@@ -78,3 +86,19 @@ pastTheLast = hears (hears (hears (hears begins (clear last)) (add last 1001 buy
 
 abbrev pub lastLost : ByteFeed
 lastLost = hears (hears (loses (hears begins (clear last)) (add last 1001 buy 1234500 200)) (clear 1)) (add 1 1002 buy 1234500 50)
+
+-- an execution with the conditions `C`, `7`, a space and `V`: cash, qualified contingent and contingent, which Texas alone lists
+abbrev pub inCash : (number order trade price volume : ℕ) → List ℕ
+inCash = executeOn 67 55 32 86
+
+-- number 2 is lost, and an execution in cash shows it
+abbrev pub inTexas : ByteFeed
+inTexas =
+    hears (loses (hears begins
+    (add 1 1001 buy 1234500 200))
+    (add 2 1002 buy 1234500 50))
+    (inCash 3 1001 1 1234400 200)
+
+-- an order, and 50 shares of it executed in cash
+abbrev pub oneInCash : ByteFeed
+oneInCash = hears (hears begins (add 1 1001 buy 1234500 200)) (inCash 2 1001 1 1234400 50)

@@ -14,6 +14,7 @@ use Rattle.wire.specs.Message.{typeOf, faultIn}
 use Rattle.wire.specs.FirstBad.{FirstBadOf, Locates}
 use Rattle.wire.specs.declared.Fault.{Fault}
 use Rattle.wire.specs.declared.Message.{Message}
+use Rattle.wire.specs.declared.markets.Market.{Market}
 use Rattle.wire.proofs.Cases.{done-is-not-refused}
 use Rattle.wire.proofs.Offsets.{locates-none, field-locates}
 use Rattle.places.specs.Places.{among}
@@ -45,40 +46,40 @@ by-checks false Fault.Nothing true true short line out e = refl
 by-checks false Fault.Nothing true false true line out e = rw e
 by-checks false Fault.Nothing true false false line out e = rw e
 
-pub line-answers : (s : Listing) (m : Message) (plain : List ℕ) (sequence second : ℕ) (out : List ℕ) → among (numberOf (lineOf s m plain sequence second out .outcome)) (0 ∷ 3 ∷ 4 ∷ 5 ∷ 14 ∷ 15 ∷ []) ≡ true
+pub line-answers : (market : Market) (s : Listing) (m : Message) (plain : List ℕ) (sequence second : ℕ) (out : List ℕ) → among (numberOf (lineOf market s m plain sequence second out .outcome)) (0 ∷ 3 ∷ 4 ∷ 5 ∷ 14 ∷ 15 ∷ []) ≡ true
 unfolding lineOf
-line-answers s m plain sequence second out = by-checks _ _ _ _ _ _ out refl
+line-answers market s m plain sequence second out = by-checks _ _ _ _ _ _ out refl
 
 -- ---- the offset: with a bad field where the first one stands, with every other answer 0
-module _ (m : Message) where
+module _ (market : Market) (m : Message) (plain : List ℕ) where
   -- of a message that has a line the test of its fields says it all
-  with-line : hasNoLine (typeOf m) ≡ false → (number offset : ℕ) → Locates (FirstBadOf m) number offset → Locates (FirstBadOn m) number offset
+  with-line : hasNoLine (typeOf m) ≡ false → (number offset : ℕ) → Locates (FirstBadOf market m plain) number offset → Locates (FirstBadOn market m plain) number offset
   with-line type number offset l = record { bad-field = λ four. record { has-line = type; first = l .bad-field four }; answered = λ n x. l .answered n (x .first); no-field = l .no-field }
 
   -- where none is bad
-  none-bad : faultIn m ≡ Fault.Nothing → (n : ℕ) → FirstBadOn m n → ⊥
+  none-bad : faultIn market m plain ≡ Fault.Nothing → (n : ℕ) → FirstBadOn market m plain n → ⊥
   none-bad e n x =
-      let four = field-locates m .answered n (x .first) .0 in
+      let four = field-locates market m plain .answered n (x .first) .0 in
       omega (arith, sym (ap (λ (y : Fault). numberOf (faultAs y .outcome)) e) ∙ four)
 
-  laid-nowhere : faultIn m ≡ Fault.Nothing → (short : Bool) (line out : List ℕ) → Locates (FirstBadOn m) (numberOf (laidIf short line out .outcome)) (laidIf short line out .offset)
-  laid-nowhere e true line out = locates-none (FirstBadOn m) 15 (λ z. omega (arith, z)) (none-bad e)
-  laid-nowhere e false line out = locates-none (FirstBadOn m) 0 (λ z. omega (arith, z)) (none-bad e)
+  laid-nowhere : faultIn market m plain ≡ Fault.Nothing → (short : Bool) (line out : List ℕ) → Locates (FirstBadOn market m plain) (numberOf (laidIf short line out .outcome)) (laidIf short line out .offset)
+  laid-nowhere e true line out = locates-none (FirstBadOn market m plain) 15 (λ z. omega (arith, z)) (none-bad e)
+  laid-nowhere e false line out = locates-none (FirstBadOn market m plain) 0 (λ z. omega (arith, z)) (none-bad e)
 
-  by-fault : (no-line : Bool) → hasNoLine (typeOf m) ≡ no-line → (bad : Fault) → faultIn m ≡ bad → (known late : Bool) (line out : List ℕ)
-      → Locates (FirstBadOn m) (numberOf (lineBy no-line bad known late line out .outcome)) (lineBy no-line bad known late line out .offset)
+  by-fault : (no-line : Bool) → hasNoLine (typeOf m) ≡ no-line → (bad : Fault) → faultIn market m plain ≡ bad → (known late : Bool) (line out : List ℕ)
+      → Locates (FirstBadOn market m plain) (numberOf (lineBy no-line bad known late line out .outcome)) (lineBy no-line bad known late line out .offset)
   unfolding lineBy laid
-  by-fault true q bad e known late line out = locates-none (FirstBadOn m) 3 (λ z. omega (arith, z)) (λ n x. true≢false (sym q ∙ x .has-line))
+  by-fault true q bad e known late line out = locates-none (FirstBadOn market m plain) 3 (λ z. omega (arith, z)) (λ n x. true≢false (sym q ∙ x .has-line))
   by-fault false q (Fault.At k) e known late line out =
-      with-line q 4 k (subst (λ (y : Fault). Locates (FirstBadOf m) (numberOf (faultAs y .outcome)) (faultAs y .offset)) e (field-locates m))
-  by-fault false q Fault.Nothing e false late line out = locates-none (FirstBadOn m) 5 (λ z. omega (arith, z)) (none-bad e)
-  by-fault false q Fault.Nothing e true true line out = locates-none (FirstBadOn m) 14 (λ z. omega (arith, z)) (none-bad e)
+      with-line q 4 k (subst (λ (y : Fault). Locates (FirstBadOf market m plain) (numberOf (faultAs y .outcome)) (faultAs y .offset)) e (field-locates market m plain))
+  by-fault false q Fault.Nothing e false late line out = locates-none (FirstBadOn market m plain) 5 (λ z. omega (arith, z)) (none-bad e)
+  by-fault false q Fault.Nothing e true true line out = locates-none (FirstBadOn market m plain) 14 (λ z. omega (arith, z)) (none-bad e)
   by-fault false q Fault.Nothing e true false line out = laid-nowhere e (ltb (length out) (length line)) line out
 
-  pub line-locates : (s : Listing) (plain : List ℕ) (sequence second : ℕ) (out : List ℕ)
-      → Locates (FirstBadOn m) (numberOf (lineOf s m plain sequence second out .outcome)) (lineOf s m plain sequence second out .offset)
+  pub line-locates : (s : Listing) (sequence second : ℕ) (out : List ℕ)
+      → Locates (FirstBadOn market m plain) (numberOf (lineOf market s m plain sequence second out .outcome)) (lineOf market s m plain sequence second out .offset)
   unfolding lineOf
-  line-locates s plain sequence second out = by-fault (hasNoLine (typeOf m)) refl (faultIn m) refl _ _ _ out
+  line-locates s sequence second out = by-fault (hasNoLine (typeOf m)) refl (faultIn market m plain) refl _ _ _ out
 
 -- ---- refused, the buffer is as it was
 laid-if-refused : (short : Bool) (line out : List ℕ) (k : ℕ) → laidIf short line out .outcome ≡ refused k → laidIf short line out .out ≡ out
@@ -97,9 +98,9 @@ by-refusal false Fault.Nothing false late line out k e = refl
 by-refusal false Fault.Nothing true true line out k e = refl
 by-refusal false Fault.Nothing true false line out k e = laid-refused line out k e
 
-pub line-refused : (s : Listing) (m : Message) (plain : List ℕ) (sequence second : ℕ) (out : List ℕ) (k : ℕ) → lineOf s m plain sequence second out .outcome ≡ refused k → lineOf s m plain sequence second out .out ≡ out
+pub line-refused : (market : Market) (s : Listing) (m : Message) (plain : List ℕ) (sequence second : ℕ) (out : List ℕ) (k : ℕ) → lineOf market s m plain sequence second out .outcome ≡ refused k → lineOf market s m plain sequence second out .out ≡ out
 unfolding lineOf
-line-refused s m plain sequence second out k e = by-refusal _ _ _ _ _ out k e
+line-refused market s m plain sequence second out k e = by-refusal _ _ _ _ _ out k e
 
 -- ---- a laying: 1, 2 and 15, and 14 past the last second alone
 one-two-fifteen : (a : ℕ) → ((1 ≤ a) × (a ≤ 2)) ⊎ (a ≡ 15) → (among a (1 ∷ 2 ∷ 14 ∷ 15 ∷ []) ≡ true) × (a ≡ 14 → ⊥)

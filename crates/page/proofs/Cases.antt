@@ -14,6 +14,7 @@ use Rattle.wire.specs.Writing.{Write, leaving, refuse, refuseField, countOf}
 use Rattle.wire.specs.Message.{typeOf, faultIn}
 use Rattle.wire.specs.declared.Fault.{Fault}
 use Rattle.wire.specs.declared.Message.{Message}
+use Rattle.wire.specs.declared.markets.Market.{Market}
 use Rattle.symbols.specs.declared.registering.Listing.{Listing}
 use Rattle.columns.specs.Columns.{rendered}
 use Rattle.page.specs.Columns.{columnsOf}
@@ -41,17 +42,17 @@ pub appended : (line bs out after : List ℕ) (at k : ℕ) → k ≡ length line
 appended line bs out after at k e b c = record { count = ap (λ j. at + j) e; out = c ∙ (λ i. take at out ++ (ap (λ j. take j bs) e ∙ b) i ++ drop (at + e i) out) }
 
 -- ---- the checks, in their order
-module _ (s : Listing) (m : Message) (plain : List ℕ) (sequence second : ℕ) (out : List ℕ) where
-  pub line-no-type : hasNoLine (typeOf m) ≡ true → lineOf s m plain sequence second out ≡ refuse 3 out
+module _ (market : Market) (s : Listing) (m : Message) (plain : List ℕ) (sequence second : ℕ) (out : List ℕ) where
+  pub line-no-type : hasNoLine (typeOf m) ≡ true → lineOf market s m plain sequence second out ≡ refuse 3 out
   unfolding lineOf lineBy
   line-no-type h = rw h refl
 
   module _ (type : hasNoLine (typeOf m) ≡ false) where
-    pub line-bad-field : (n : ℕ) → faultIn m ≡ Fault.At n → lineOf s m plain sequence second out ≡ refuseField n out
+    pub line-bad-field : (n : ℕ) → faultIn market m plain ≡ Fault.At n → lineOf market s m plain sequence second out ≡ refuseField n out
     unfolding lineOf lineBy
     line-bad-field n h = rw (type, h) refl
 
-    pub line-fields-good : faultIn m ≡ Fault.Nothing → lineOf s m plain sequence second out ≡ lineBy false Fault.Nothing (eqb (s .answer) 0) (ltb lastSecond second) (rendered (columnsOf s m plain sequence second)) out
+    pub line-fields-good : faultIn market m plain ≡ Fault.Nothing → lineOf market s m plain sequence second out ≡ lineBy false Fault.Nothing (eqb (s .answer) 0) (ltb lastSecond second) (rendered (columnsOf s m plain sequence second)) out
     unfolding lineOf
     line-fields-good h = rw (type, h) refl
 
@@ -90,6 +91,6 @@ line-stays false Fault.Nothing false late line out = refl
 line-stays false Fault.Nothing true true line out = refl
 line-stays false Fault.Nothing true false line out = laid-beyond line out
 
-pub bytes-beyond-stay : (s : Listing) (m : Message) (plain : List ℕ) (sequence second : ℕ) (out : List ℕ) → StaysBeyond (lineOf s m plain sequence second out) out
+pub bytes-beyond-stay : (market : Market) (s : Listing) (m : Message) (plain : List ℕ) (sequence second : ℕ) (out : List ℕ) → StaysBeyond (lineOf market s m plain sequence second out) out
 unfolding lineOf
-bytes-beyond-stay s m plain sequence second out = line-stays _ _ _ _ _ out
+bytes-beyond-stay market s m plain sequence second out = line-stays _ _ _ _ _ out

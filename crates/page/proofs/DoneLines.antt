@@ -8,11 +8,12 @@ use native.Mathlib.Omega.{arith}
 use lib.ListN.{take, drop}
 use Rattle.wire.specs.Outcome.{Outcome, done}
 use Rattle.wire.specs.Reading.{reachOf, readOf}
-use Rattle.wire.specs.Message.{typeOf, indexIn}
+use Rattle.wire.specs.Message.{typeOf, indexIn, faultIn}
 use Rattle.wire.specs.declared.Message.{Message}
+use Rattle.wire.specs.declared.markets.Market.{Market}
 use Rattle.wire.proofs.GoodFields.{read-is-good}
-use Rattle.symbols.specs.Registering.{Next, toldOf}
-use Rattle.book.specs.State.{Symbol, View, view, entryOf, symbolIn}
+use Rattle.symbols.specs.Registering.{toldOf}
+use Rattle.book.specs.State.{Symbol, View, Next, view, entryOf, placeIn, symbolIn}
 use Rattle.book.specs.Registering.{toldIn}
 use Rattle.book.specs.Step.{actAt, actOn, meant, stepOn, stepOf}
 use Rattle.book.specs.Walk.{moveBy, moveOf, Moves}
@@ -21,7 +22,6 @@ use Rattle.book.specs.declared.Book.{Book}
 use Rattle.book.specs.declared.walk.Moved.{Moved}
 use Rattle.book.proofs.Isolation.{own-symbol}
 use Rattle.book.proofs.Reaching.{reached-wf}
-use Rattle.symbols.specs.State.{placeOf}
 use Rattle.feed.specs.Reader.{indexOf}
 use Rattle.columns.specs.Columns.{rendered}
 use Rattle.page.specs.Columns.{columnsOf}
@@ -52,22 +52,22 @@ met : (v : View) (m : Message) → actOn v (meant m) .answer ≡ 0 → toldIn (i
 unfolding actOn toldIn toldOf
 met v m e = rw (← index-meant m) (go (symbolIn (indexOf (meant m)) v) refl e)
   where
-    go : (x : Option Symbol) → symbolIn (indexOf (meant m)) v ≡ x → actAt v (placeOf entryOf (indexOf (meant m)) v) x (meant m) .answer ≡ 0 → toldIn (indexOf (meant m)) (actOn v (meant m) .view) .answer ≡ 0
+    go : (x : Option Symbol) → symbolIn (indexOf (meant m)) v ≡ x → actAt v (placeIn (indexOf (meant m)) v) x (meant m) .answer ≡ 0 → toldIn (indexOf (meant m)) (actOn v (meant m) .view) .answer ≡ 0
     go none q z = absurd (omega (arith, z))
     go (some s) q z = ap (λ (x : Option Symbol). toldOf (Option·map entryOf x) .answer) (own-symbol v (meant m) s q)
 
 -- so the text that is laid of a done 100 or 111 is the line that `line` prints of it, on any day and into any buffer with room for it
-pub done-gets-its-line : {b : Book} → Reached b → {s : List ℕ} {at n : ℕ} {r : Moved} → Moves b s at r → reachOf (drop at s) ≡ done n → r .answer ≡ 0 → (m : Message) → readOf (take n (drop at s)) .outcome ≡ done m
+pub done-gets-its-line : {b : Book} → Reached b → {s : List ℕ} {at n : ℕ} {r : Moved} → Moves b s at r → reachOf (drop at s) ≡ done n → r .answer ≡ 0 → (m : Message) → readOf (view b .market) (take n (drop at s)) .outcome ≡ done m
     → hasNoLine (typeOf m) ≡ false → (place second : ℕ) → second ≤ lastSecond → (out : List ℕ)
-    → lineOf (told (r .book) m) m (readOf (take n (drop at s)) .plain) (sequenceOf place) second out ≡ laid (passedText (record { view = view (r .book); answer = r .answer }) (take n (drop at s)) place second) out
+    → lineOf (view (r .book) .market) (told (r .book) m) m (readOf (view b .market) (take n (drop at s)) .plain) (sequenceOf place) second out ≡ laid (passedText (view b .market) (record { view = view (r .book); answer = r .answer }) (take n (drop at s)) place second) out
 unfolding moveOf stepOf
 done-gets-its-line {b = b} p {s = s} {at = at} {n = n} {r = r} moves reach zero m read type place second day out =
     let o = moves .obeys (reached-wf p) in
-    let plain = readOf (take n (drop at s)) .plain in
+    let plain = readOf (view b .market) (take n (drop at s)) .plain in
     let act : moveOf (view b) s at ≡ actOn (view b) (meant m) = ap (λ (x : Outcome ℕ). moveBy x (view b) s at) reach ∙ ap (stepOn (view b)) read in
     let met-it : toldIn (indexIn m) (view (r .book)) .answer ≡ 0 =
-    ap (λ (v : View). toldIn (indexIn m) v .answer) (o .next-view ∙ ap (λ (x : Next Symbol). x .view) act)
-    ∙ met (view b) m (sym (ap (λ (x : Next Symbol). x .answer) act) ∙ sym (o .answer) ∙ zero) in
-    line-fields-good (told (r .book) m) m plain (sequenceOf place) second out type (read-is-good (take n (drop at s)) m read)
+    ap (λ (v : View). toldIn (indexIn m) v .answer) (o .next-view ∙ ap (λ (x : Next). x .view) act)
+    ∙ met (view b) m (sym (ap (λ (x : Next). x .answer) act) ∙ sym (o .answer) ∙ zero) in
+    line-fields-good (view (r .book) .market) (told (r .book) m) m plain (sequenceOf place) second out type (ap (λ (k : Market). faultIn k m plain) (moves .market) ∙ read-is-good (view b .market) (take n (drop at s)) m read)
     ∙ line-good (told (r .book) m) second (rendered (columnsOf (told (r .book) m) m plain (sequenceOf place) second)) out met-it day
-    ∙ ap (λ (t : List ℕ). laid t out) (sym (passed-done (view (r .book)) (take n (drop at s)) (r .answer) place second zero ∙ ap (λ (x : Outcome Message). doneText (view (r .book)) x plain place second) read ∙ line-prints (view (r .book)) m plain place second type))
+    ∙ ap (λ (t : List ℕ). laid t out) (sym (passed-done (view b .market) (view (r .book)) (take n (drop at s)) (r .answer) place second zero ∙ ap (λ (x : Outcome Message). doneText (view (r .book)) x plain place second) read ∙ line-prints (view (r .book)) m plain place second type))

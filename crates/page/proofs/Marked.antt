@@ -7,6 +7,7 @@ use Rattle.wire.specs.Outcome.{done, only}
 use Rattle.wire.specs.Writing.{leaving, refuse}
 use Rattle.wire.specs.Message.{faultIn}
 use Rattle.wire.specs.Table.{shapeOf}
+use Rattle.wire.specs.declared.markets.Market.{Market}
 use Rattle.wire.specs.Fields.{firstBad, faultOf}
 use Rattle.columns.specs.Text.{fixed, digitsBy, digits, priced, timed}
 use Rattle.columns.specs.Columns.{rendered}
@@ -20,9 +21,9 @@ unfolding rendered fixed digitsBy digits priced timed
 line-l = refl
 
 -- the line, with its line feed, in any buffer that has room for it
-pub case-l : (out : List ℕ) → length lineL ≤ length out → lineOf abc add firm sequenceL secondL out ≡ leaving (only (done (length lineL))) (lineL ++ drop (length lineL) out)
+pub case-l : (market : Market) (out : List ℕ) → length lineL ≤ length out → lineOf market abc add firm sequenceL secondL out ≡ leaving (only (done (length lineL))) (lineL ++ drop (length lineL) out)
 unfolding lineOf lineBy hasNoLine faultIn shapeOf faultOf firstBad
-case-l out h = ap (λ x. laid x out) line-l ∙ laid-fits lineL out h
+case-l market out h = ap (λ x. laid x out) line-l ∙ laid-fits lineL out h
 
 pub price-5-at-scale-4 : priced 4 5 ≡ ascii "0.0005"
 unfolding fixed digitsBy digits priced
@@ -36,6 +37,6 @@ pub last-second-prints : timed 86399 999999999 ≡ ascii "23:59:59.999999999"
 unfolding fixed timed
 last-second-prints = refl
 
-pub second-86400-is-refused : (out : List ℕ) → lineOf abc add firm sequenceL 86400 out ≡ refuse 14 out
+pub second-86400-is-refused : (market : Market) (out : List ℕ) → lineOf market abc add firm sequenceL 86400 out ≡ refuse 14 out
 unfolding lineOf lineBy hasNoLine faultIn shapeOf faultOf firstBad
-second-86400-is-refused out = refl
+second-86400-is-refused market out = refl

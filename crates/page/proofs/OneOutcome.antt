@@ -37,7 +37,7 @@ same-printed a b x y e =
 
 -- two results that meet the promise of a call on the same input are equal, buffers included
 module _ (b : Book) (out x y : List ℕ) where
-  pub one-line : (m : Message) (plain : List ℕ) (sequence second : ℕ) (p q : Printed) → printed p x ≡ lineOf (told b m) m plain sequence second out → printed q y ≡ lineOf (told b m) m plain sequence second out → (p ≡ q) × (x ≡ y)
+  pub one-line : (m : Message) (plain : List ℕ) (sequence second : ℕ) (p q : Printed) → printed p x ≡ lineOf (view b .market) (told b m) m plain sequence second out → printed q y ≡ lineOf (view b .market) (told b m) m plain sequence second out → (p ≡ q) × (x ≡ y)
   one-line m plain sequence second p q e f = same-printed p q x y (e ∙ sym f)
 
   pub one-end : (index answer : ℕ) (p q : Printed) → printed p x ≡ laid (closing (view b) index answer) out → printed q y ≡ laid (closing (view b) index answer) out → (p ≡ q) × (x ≡ y)

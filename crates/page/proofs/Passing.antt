@@ -11,11 +11,11 @@ use lib.Dec.{ltb}
 use lib.ListN.{length, take, drop, length-append}
 use lib.Seq.{take-at, drop-at}
 use Rattle.wire.specs.Outcome.{refused}
-use Rattle.wire.specs.Reading.{reachOf, readOf}
+use Rattle.wire.specs.Reading.{reachOf}
 use Rattle.wire.proofs.Answers.{reach-refuses}
 use Rattle.wire.proofs.Cases.{reached}
 use Rattle.book.specs.State.{View, view, Wf}
-use Rattle.book.specs.Step.{stepOf}
+use Rattle.book.specs.Step.{stepIn}
 use Rattle.book.specs.Walk.{AllComplete, walkOf, stepsOf}
 use Rattle.book.specs.declared.Book.{Book}
 use Rattle.book.proofs.Positions.{stops-there}
@@ -40,8 +40,8 @@ pub texts-join : (second : ℕ) (v : View) (place : ℕ) (ms ns : List (List ℕ
 unfolding textsOf stepsOf placeAfter
 texts-join second v place [] ns = refl
 texts-join second v place (m ∷ ms) ns =
-    ap (λ (l : List ℕ). passedText (stepOf v (readOf m)) m (nextPlace place) second ++ l) (texts-join second (stepOf v (readOf m) .view) (nextPlace place) ms ns)
-    ∙ sym (append-assoc (passedText (stepOf v (readOf m)) m (nextPlace place) second) (textsOf second (stepOf v (readOf m) .view) (nextPlace place) ms) _)
+    ap (λ (l : List ℕ). passedText (v .market) (stepIn v m) m (nextPlace place) second ++ l) (texts-join second (stepIn v m .view) (nextPlace place) ms ns)
+    ∙ sym (append-assoc (passedText (v .market) (stepIn v m) m (nextPlace place) second) (textsOf second (stepIn v m .view) (nextPlace place) ms) _)
 
 -- ---- a laying lays some of the messages, and all unless it ends with 15
 abbrev after : ℕ → Sheet → List (List ℕ) → Sheet
@@ -61,10 +61,10 @@ after-none second s = λ i. record { view = s .view; at = sym (add-zero (s .at))
 after-more : (second : ℕ) (s : Sheet) (m : List ℕ) (ms : List (List ℕ)) → after second (more second s m) ms ≡ after second s (m ∷ ms)
 unfolding textsOf stepsOf placeAfter flatten
 after-more second s m ms = λ i. record {
-  view = stepsOf (stepOf (s .view) (readOf m) .view) ms;
+  view = stepsOf (stepIn (s .view) m .view) ms;
   at = (add-assoc (s .at) (length m) (length (flatten ms)) ∙ ap (λ (n : ℕ). s .at + n) (sym (length-append m (flatten ms)))) i;
   place = placeAfter (nextPlace (s .place)) ms;
-  text = append-assoc (s .text) (passedText (stepOf (s .view) (readOf m)) m (nextPlace (s .place)) second) (textsOf second (stepOf (s .view) (readOf m) .view) (nextPlace (s .place)) ms) i;
+  text = append-assoc (s .text) (passedText (s .view .market) (stepIn (s .view) m) m (nextPlace (s .place)) second) (textsOf second (stepIn (s .view) m .view) (nextPlace (s .place)) ms) i;
 }
 
 lays-some : (second size stop : ℕ) (ms : List (List ℕ)) (s : Sheet) → Some second stop s ms (layFrom second size stop s ms)

@@ -16,6 +16,7 @@ use Rattle.wire.specs.Reading.{readOf, answeredAs}
 use Rattle.wire.specs.Message.{typeOf, indexIn}
 use Rattle.wire.specs.declared.Answer.{Answer}
 use Rattle.wire.specs.declared.Message.{Message}
+use Rattle.wire.specs.declared.markets.Market.{Market}
 use Rattle.book.specs.State.{View}
 use Rattle.book.specs.Registering.{toldIn}
 use Rattle.orders.specs.declared.levels.Level.{Level}
@@ -68,12 +69,12 @@ module _ (answer offset place : ℕ) where
   refusal-other h = rw (ne-eqb _ _ h) refl
 
 -- ---- a message that was passed over
-module _ (v : View) (m : List ℕ) (answer place second : ℕ) where
-  pub passed-refused : (answer ≡ 0 → ⊥) → passedText (record { view = v; answer = answer }) m place second ≡ rendered (refusal answer (readOf m .offset) place)
+module _ (market : Market) (v : View) (m : List ℕ) (answer place second : ℕ) where
+  pub passed-refused : (answer ≡ 0 → ⊥) → passedText market (record { view = v; answer = answer }) m place second ≡ rendered (refusal answer (readOf market m .offset) place)
   unfolding passedText
   passed-refused h = rw (ne-eqb _ _ h) refl
 
-  pub passed-done : answer ≡ 0 → passedText (record { view = v; answer = answer }) m place second ≡ doneText v (readOf m .outcome) (readOf m .plain) place second
+  pub passed-done : answer ≡ 0 → passedText market (record { view = v; answer = answer }) m place second ≡ doneText v (readOf market m .outcome) (readOf market m .plain) place second
   unfolding passedText
   passed-done h = rw (eq-eqb _ _ h) refl
 

@@ -9,10 +9,11 @@ use borrow.Author.Tests.{lt-ltb, le-ltb}
 use lib.ListN.{length, take, drop, length-append}
 use lib.Seq.{take-at, drop-at, drop-drop, length-take-le}
 use Rattle.wire.specs.Outcome.{Outcome, done, refused, numberOf}
-use Rattle.wire.specs.Reading.{reachOf, readOf}
+use Rattle.wire.specs.Reading.{reachOf}
+use Rattle.wire.specs.declared.markets.Market.{Market}
 use Rattle.wire.proofs.Cases.{reached}
 use Rattle.book.specs.State.{view, Wf}
-use Rattle.book.specs.Step.{stepOf}
+use Rattle.book.specs.Step.{stepIn}
 use Rattle.book.specs.Walk.{landing, stopping, moveBy, moveOf, walkFor, walkOf, Moves}
 use Rattle.book.specs.declared.Book.{Book}
 use Rattle.book.specs.declared.walk.Moved.{Moved}
@@ -51,6 +52,7 @@ pub record Rest (b₀ : Book) (stream : List ℕ) (from place second : ℕ) (bef
   pub some : 0 < fuel
   pub passed : from ≤ here
   pub still : here ≡ from → b ≡ b₀
+  pub same-market : view b .market ≡ view b₀ .market
   pub text : List ℕ
   pub front : Front before text n out
   pub sound : Wf b₀ → Wf b
@@ -64,6 +66,7 @@ rest-all b stream from place second before = record {
   some = omega arith;
   passed = omega arith;
   still = λ e. refl;
+  same-market = refl;
   text = [];
   front = record { long = refl; within = omega arith; shown = refl };
   sound = λ w. w;
@@ -126,10 +129,10 @@ module _ {b₀ : Book} {stream : List ℕ} {from place second : ℕ} {before : L
         go (done k) e (suc g) f s = ends 15 h (λ w. rw (e, l .front .long, lt-ltb (length before - n) room few) at (s w))
 
     -- one message more
-    pub rest-on : (q : ℕ) → q ≡ nextPlace p → room ≤ length before - n → (t : List ℕ) → length t ≤ room → t ≡ passedText (record { view = view (r .book); answer = r .answer }) (take (r .at - here) (drop here stream)) q second
+    pub rest-on : (market : Market) → market ≡ view b₀ .market → (q : ℕ) → q ≡ nextPlace p → room ≤ length before - n → (t : List ℕ) → length t ≤ room → t ≡ passedText market (record { view = view (r .book); answer = r .answer }) (take (r .at - here) (drop here stream)) q second
         → (k : ℕ) (after : List ℕ) → Appends t n out k after → Rest b₀ stream from place second before (r .book) (r .at) q k after
     unfolding walkFor layFrom moveOf
-    rest-on q is fits t short told k after a = go (reachOf (drop here stream)) refl (l .fuel) (l .enough) (l .same)
+    rest-on market named q is fits t short told k after a = go (reachOf (drop here stream)) refl (l .fuel) (l .enough) (l .same)
       where
         go : (x : Outcome ℕ) → reachOf (drop here stream) ≡ x → (g : ℕ) → length stream < here + g
             → (Wf b₀ → layFrom second (length before) (walkFor g stream here .answer) (sheetOf b here p (l .text)) (walkFor g stream here .messages) ≡ layOf second (length before) (view b₀) stream from place)
@@ -141,7 +144,7 @@ module _ {b₀ : Book} {stream : List ℕ} {from place second : ℕ} {before : L
             let to : r .at ≡ here + z = m .at ∙ ap (λ (x : Outcome ℕ). landing x here) e in
             let size : length (take z (drop here stream)) ≡ z = length-take-le z (drop here stream) (reached (drop here stream) z e .there) in
             let bytes = passed-bytes b stream here r m z e in
-            let after-it : Wf b₀ → record { view = view (r .book); answer = r .answer } ≡ stepOf (view b) (readOf (take z (drop here stream))) =
+            let after-it : Wf b₀ → record { view = view (r .book); answer = r .answer } ≡ stepIn (view b) (take z (drop here stream)) =
             (λ w. let o = m .obeys (l .sound w) in (λ i. record { view = o .next-view i; answer = o .answer i }) ∙ ap (λ (x : Outcome ℕ). moveBy x (view b) stream here) e) in
             record {
               fuel = g;
@@ -149,14 +152,15 @@ module _ {b₀ : Book} {stream : List ℕ} {from place second : ℕ} {before : L
               some = omega (arith, f, move-within stream here z e);
               passed = omega (arith, l .passed);
               still = λ y. absurd (omega (arith, l .passed, y, least));
+              same-market = m .market ∙ l .same-market;
               text = l .text ++ t;
               front = front-more before (l .text) n out t k after (l .front) (omega (arith, fits, short, l .front .within)) a;
               sound = λ w. m .obeys (l .sound w) .wf;
               same = λ w.
                   let now : layFrom second (length before) (walkFor g stream (here + z) .answer) (more second (sheetOf b here p (l .text)) (take z (drop here stream))) (walkFor g stream (here + z) .messages) ≡ layOf second (length before) (view b₀) stream from place =
                   (rw (e, l .front .long, le-ltb (length before - n) room fits) at (s w)) in
-                  let text : t ≡ passedText (stepOf (view b) (readOf (take z (drop here stream)))) (take z (drop here stream)) (nextPlace p) second =
-                  told ∙ (λ i. passedText (after-it w i) (bytes i) (is i) second) in
+                  let text : t ≡ passedText (view b .market) (stepIn (view b) (take z (drop here stream))) (take z (drop here stream)) (nextPlace p) second =
+                  told ∙ (λ i. passedText ((named ∙ sym (l .same-market)) i) (after-it w i) (bytes i) (is i) second) in
                   let sheet : sheetOf (r .book) (r .at) q (l .text ++ t) ≡ more second (sheetOf b here p (l .text)) (take z (drop here stream)) =
                   (λ i. record { view = after-it w i .view; at = (to ∙ ap (λ (j : ℕ). here + j) (sym size)) i; place = is i; text = l .text ++ text i }) in
                   (λ i. layFrom second (length before) (walkFor g stream (to i) .answer) (sheet i) (walkFor g stream (to i) .messages)) ∙ now;

@@ -5,9 +5,8 @@ use mathlib.Core.Bool.{cond}
 use mathlib.Core.Path.{_≡_}
 use lib.Dec.{ltb}
 use lib.ListN.{length, drop}
-use Rattle.wire.specs.Reading.{readOf}
 use Rattle.book.specs.State.{View, view, Wf}
-use Rattle.book.specs.Step.{stepOf}
+use Rattle.book.specs.Step.{stepIn}
 use Rattle.book.specs.Walk.{walkOf}
 use Rattle.book.specs.declared.Book.{Book}
 use Rattle.columns.specs.Held.{room}
@@ -25,10 +24,10 @@ pub record Sheet : Type 0 where
 -- one message more
 abbrev pub more : ℕ → Sheet → List ℕ → Sheet
 more second s m = record {
-  view = stepOf (s .view) (readOf m) .view;
+  view = stepIn (s .view) m .view;
   at = s .at + length m;
   place = nextPlace (s .place);
-  text = s .text ++ passedText (stepOf (s .view) (readOf m)) m (nextPlace (s .place)) second;
+  text = s .text ++ passedText (s .view .market) (stepIn (s .view) m) m (nextPlace (s .place)) second;
 }
 
 -- and why it ended: the answer that stopped the walk, or 15

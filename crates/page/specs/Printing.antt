@@ -11,6 +11,7 @@ use Rattle.wire.specs.Message.{typeOf, indexIn, faultIn}
 use Rattle.wire.specs.FirstBad.{FirstBadOf}
 use Rattle.wire.specs.declared.Fault.{Fault}
 use Rattle.wire.specs.declared.Message.{Message}
+use Rattle.wire.specs.declared.markets.Market.{Market}
 use Rattle.book.specs.State.{view}
 use Rattle.book.specs.Registering.{toldIn}
 use Rattle.book.specs.declared.Book.{Book}
@@ -60,15 +61,15 @@ lineBy false Fault.Nothing false late line out = refuse 5 out
 lineBy false Fault.Nothing true true line out = refuse 14 out
 lineBy false Fault.Nothing true false line out = laid line out
 
--- the line of a message at the start of out, by what is told of its symbol
-unfoldable pub lineOf : Listing → Message → List ℕ → ℕ → ℕ → List ℕ → Write
-lineOf s m plain sequence second out =
-    lineBy (hasNoLine (typeOf m)) (faultIn m) (eqb (s .answer) 0) (ltb lastSecond second) (rendered (columnsOf s m plain sequence second)) out
+-- the line of a message of a market at the start of out, by what is told of its symbol
+unfoldable pub lineOf : Market → Listing → Message → List ℕ → ℕ → ℕ → List ℕ → Write
+lineOf market s m plain sequence second out =
+    lineBy (hasNoLine (typeOf m)) (faultIn market m plain) (eqb (s .answer) 0) (ltb lastSecond second) (rendered (columnsOf s m plain sequence second)) out
 
 -- a message that has a line, and its first bad field at n
-pub record FirstBadOn (m : Message) (n : ℕ) : Type 0 where
+pub record FirstBadOn (market : Market) (m : Message) (plain : List ℕ) (n : ℕ) : Type 0 where
   pub has-line : hasNoLine (typeOf m) ≡ false
-  pub first : FirstBadOf m n
+  pub first : FirstBadOf market m plain n
 
 -- what a book tells of a message's symbol
 abbrev pub told : Book → Message → Listing

@@ -7,11 +7,11 @@ use Rattle.wire.specs.Outcome.{Outcome, done, refused}
 use Rattle.wire.specs.Reading.{readOf}
 use Rattle.wire.specs.Message.{typeOf, indexIn}
 use Rattle.wire.specs.declared.Message.{Message}
-use Rattle.symbols.specs.Registering.{Next}
+use Rattle.wire.specs.declared.markets.Market.{Market}
 use Rattle.orders.specs.declared.levels.Level.{Level}
-use Rattle.book.specs.State.{Symbol, View}
+use Rattle.book.specs.State.{View, Next}
 use Rattle.book.specs.Registering.{toldIn}
-use Rattle.book.specs.Step.{stepOf}
+use Rattle.book.specs.Step.{stepIn}
 use Rattle.book.specs.Quote.{quoteOf}
 use Rattle.book.specs.Walk.{Walk, walkOf, stepsOf}
 use Rattle.book.specs.declared.quote.Quote.{Quote}
@@ -32,7 +32,7 @@ letterE = letter 69
 abbrev pub letterQ : Column
 letterQ = letter 81
 
--- ---- a message that was passed over, by its answer and the view after it
+-- ---- a message that was passed over, read as its market sends it, by its answer and the view after it
 
 -- with a bad field, and with nothing else, its offset in the message
 abbrev pub offsetIf : Bool → ℕ → List Column
@@ -59,8 +59,8 @@ abbrev pub doneText : View → Outcome Message → List ℕ → ℕ → ℕ → 
 doneText v (refused a) plain place second = []
 doneText v (done m) plain place second = lineIf (hasNoLine (typeOf m)) (rendered (columnsOf (toldIn (indexIn m) v) m plain (sequenceOf place) second))
 
-unfoldable pub passedText : Next Symbol → List ℕ → ℕ → ℕ → List ℕ
-passedText x m place second = cond (eqb (x .answer) 0) (doneText (x .view) (readOf m .outcome) (readOf m .plain) place second) (rendered (refusal (x .answer) (readOf m .offset) place))
+unfoldable pub passedText : Market → Next → List ℕ → ℕ → ℕ → List ℕ
+passedText market x m place second = cond (eqb (x .answer) 0) (doneText (x .view) (readOf market m .outcome) (readOf market m .plain) place second) (rendered (refusal (x .answer) (readOf market m .offset) place))
 
 -- ---- messages one behind the other: each has the next place, and the answer and the view that the rules give it
 
@@ -73,7 +73,7 @@ nextPlace place = (place + 1) % placeNumbers
 
 unfoldable pub textsOf : ℕ → View → ℕ → List (List ℕ) → List ℕ
 textsOf second v place [] = []
-textsOf second v place (m ∷ ms) = passedText (stepOf v (readOf m)) m (nextPlace place) second ++ textsOf second (stepOf v (readOf m) .view) (nextPlace place) ms
+textsOf second v place (m ∷ ms) = passedText (v .market) (stepIn v m) m (nextPlace place) second ++ textsOf second (stepIn v m .view) (nextPlace place) ms
 
 -- ---- the end
 

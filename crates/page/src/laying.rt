@@ -40,6 +40,7 @@ pub fn lay(book: Book, stream: &[u8], at: usize, place: u64, second: u32, out: &
             answer: 14,
         };
     }
+    let market = book.market();
     let mut b = book;
     let mut here = at;
     let mut p = place;
@@ -67,7 +68,15 @@ pub fn lay(book: Book, stream: &[u8], at: usize, place: u64, second: u32, out: &
         let next = m.book;
         let end = m.at;
         p = std::num::wrapping_add_u64(p, 1);
-        let l = passed_line(next, &stream[here..end], m.answer, m.offset, p, second);
+        let l = passed_line(
+            market,
+            next,
+            &stream[here..end],
+            m.answer,
+            m.offset,
+            p,
+            second,
+        );
         n = append(l, out, n);
         b = next;
         here = end;

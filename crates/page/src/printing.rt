@@ -7,6 +7,7 @@ use columns::ROOM;
 use columns::count;
 use symbols::Listing;
 use wire::Fault;
+use wire::Market;
 use wire::Message;
 use wire::PLAIN;
 ghost use mathlib.Core.Path.{_≡_};
@@ -16,6 +17,7 @@ ghost use lib.Dec.{eqb, ltb};
 ghost use lib.ListN.{length};
 ghost use lib.Seq.{paste};
 ghost use Rattle.wire.specs.declared.Fault.{Fault};
+ghost use Rattle.book.specs.State.{view};
 ghost use Rattle.columns.specs.Columns.{rendered};
 ghost use Rattle.columns.specs.Held.{held, room};
 ghost use Rattle.page.specs.Columns.{columnsOf};
@@ -34,14 +36,16 @@ pub fn line(
     second: u32,
     out: &mut [u8],
 ) -> Printed
-    ensures { λ r. ⌜ printed r (now (out .exit)) ≡ lineOf (told book m) m plain sequence second (now (out .entry)) ⌝ }
+    ensures { λ r. ⌜ printed r (now (out .exit)) ≡ lineOf (view book .market) (told book m) m plain sequence second (now (out .entry)) ⌝ }
 {
+    let market = book.market();
     let s = book.symbol(wire::index_of(m));
-    line_told(s, m, plain, sequence, second, out)
+    line_told(market, s, m, plain, sequence, second, out)
 }
 
-// The same, by what is told of the message's symbol: 3, 4, 5, 14, 15.
+// The same, by the market and what is told of the message's symbol: 3, 4, 5, 14, 15.
 fn line_told(
+    market: Market,
     s: Listing,
     m: Message,
     plain: [u8; PLAIN],
@@ -49,12 +53,12 @@ fn line_told(
     second: u32,
     out: &mut [u8],
 ) -> Printed
-    ensures { λ r. ⌜ printed r (now (out .exit)) ≡ lineOf s m plain sequence second (now (out .entry)) ⌝ }
+    ensures { λ r. ⌜ printed r (now (out .exit)) ≡ lineOf market s m plain sequence second (now (out .entry)) ⌝ }
 {
     if has_no_line(wire::type_of(m)) {
         return Printed::BadType;
     }
-    let fault = wire::bad_field(m);
+    let fault = wire::bad_field(market, m, plain);
     match fault {
         Fault::At(n) => Printed::BadField(n),
         Fault::Nothing => line_good(s, m, plain, sequence, second, out),

@@ -11,6 +11,7 @@ use columns::push;
 use columns::put_separator;
 use orders::Level;
 use wire::Answer;
+use wire::Market;
 ghost use mathlib.Core.List.{_++_};
 ghost use mathlib.Core.Path.{_≡_};
 ghost use Rattle.wire.specs.Reading.{readOf};
@@ -22,9 +23,10 @@ ghost use Rattle.page.specs.Printout.{refusal, passedText, endText, leve
 // A line's sequence number has 32 bits.
 const SEQUENCES: u64 = 4294967296;
 
-// Of a message with its answer, its offset and its place in the file, by the state after it: the line of a done 100 or 111, `R,answer,place` of a refused one and
+// Of a message of the market with its answer, its offset and its place in the file, by the state after it: the line of a done 100 or 111, `R,answer,place` of a refused one and
 // with a bad field `R,4,place,offset`, nothing of any other.
 pub(crate) fn passed_line(
+    market: Market,
     book: Book,
     message: &[u8],
     answer: u8,
@@ -32,13 +34,13 @@ pub(crate) fn passed_line(
     place: u64,
     second: u32,
 ) -> Line
-    requires { ⌜ offset ≡ readOf (now message) .offset ⌝ }
-    ensures { λ r. ⌜ held r ≡ passedText (record { view = view book; answer = answer }) (now (message .entry)) place second ⌝ }
+    requires { ⌜ offset ≡ readOf market (now message) .offset ⌝ }
+    ensures { λ r. ⌜ held r ≡ passedText market (record { view = view book; answer = answer }) (now (message .entry)) place second ⌝ }
 {
     if answer != 0 {
         return refusal_line(answer, offset, place);
     }
-    let d = wire::decode(message);
+    let d = wire::decode(market, message);
     let a = d.answer;
     let Answer::Message(m) = a else {
         return blank();

@@ -2,12 +2,16 @@
 use mathlib.Core.List.{List, [], _∷_}
 use mathlib.Core.Path.{_≡_}
 use Prim.Native.Nat.{ℕ}
+use Rattle.wire.specs.declared.markets.Market.{Market}
 use Rattle.book.specs.State.{View, view, Wf, newView}
 use Rattle.book.specs.Registering.{registerOf}
 use Rattle.book.specs.declared.Book.{Book}
 use Rattle.page.specs.Printout.{printoutOf}
 
--- index 7, ABC, scale 4
+-- NYSE; index 7, ABC, scale 4
+abbrev pub market : Market
+market = Market.Nyse
+
 abbrev pub index : ℕ
 index = 7
 
@@ -21,9 +25,9 @@ scale = 4
 abbrev pub second : ℕ
 second = 34200
 
--- a new state with that symbol
+-- a new state of that market with that symbol
 unfoldable pub startView : View
-startView = registerOf newView index name scale .view
+startView = registerOf (newView market) index name scale .view
 
 pub record Starts (b : Book) : Type 0 where
   pub wf : Wf b

@@ -11,6 +11,7 @@ use turns::INDEX;
 use turns::State;
 use turns::reading;
 use turns::turn;
+use wire::Market;
 ghost use mathlib.Core.Path.{_≡_};
 ghost use lib.ListN.{length};
 ghost use Rattle.parts.specs.Parts.{partRoom};
@@ -29,11 +30,11 @@ fn part_room() -> [u8; PART]
     [0; PART]
 }
 
-// A new state with the program's symbol.
+// A new state of the program's market, with its symbol.
 fn start() -> Book
     ensures { λ r. ⌜ Starts r ⌝ }
 {
-    let b = Book::new();
+    let b = Book::new(Market::Nyse);
     let r = b.register(INDEX, b"ABC", SCALE);
     r.book
 }

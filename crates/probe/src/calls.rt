@@ -8,7 +8,9 @@ use crate::shown;
 use crate::timed::with_nanos;
 use book::Book;
 use wire::Answer;
+use wire::Market;
 use wire::Message;
+use wire::Named;
 use wire::PLAIN;
 use wire::Reach;
 ghost use mathlib.Core.Path.{_≡_};
@@ -19,7 +21,8 @@ pub(crate) fn call(b: Book, c: &[u8]) -> Book {
     let which = byte_at(c, 0);
     shown::letter(which);
     match which {
-        b'N' => Book::new(),
+        b'N' => Book::new(Market::Nyse),
+        b'M' => new_state(b, byte_at(c, 1)),
         b'G' => register(b, c),
         b'S' => step(b, c),
         b'X' => run(b, c),
@@ -32,17 +35,25 @@ pub(crate) fn call(b: Book, c: &[u8]) -> Book {
             b
         }
         b'D' => {
-            read(c);
+            read(b.market(), c);
             b
         }
         b'W' => {
-            write(c);
+            write(b.market(), c);
             b
         }
         _ => {
             line(b, c);
             b
         }
+    }
+}
+
+// A number that names no market is no call, so it does not come here.
+fn new_state(b: Book, number: u8) -> Book {
+    match wire::market_named(number as u16) {
+        Named::Market(market) => Book::new(market),
+        Named::Unknown => b,
     }
 }
 
@@ -87,12 +98,12 @@ fn volume(b: Book, index: u32) {
     }
 }
 
-fn read(c: &[u8]) {
+fn read(market: Market, c: &[u8]) {
     let s = rest(c, 5);
     let at = number16(c, 1) as usize;
     match wire::reach_at(s, at) {
         Reach::Size(n) => {
-            let d = wire::decode(rest(s, at));
+            let d = wire::decode(market, rest(s, at));
             let a = d.answer;
             shown::answer(wire::number_of_answer(a));
             shown::position(at + n);
@@ -122,8 +133,8 @@ fn unread(a: Answer) {
     shown::offset(wire::offset_of_answer(a));
 }
 
-fn write(c: &[u8]) {
-    let d = wire::decode(rest(c, 9));
+fn write(market: Market, c: &[u8]) {
+    let d = wire::decode(market, rest(c, 9));
     let a = d.answer;
     let Answer::Message(m) = a else {
         unread(a);
@@ -135,11 +146,16 @@ fn write(c: &[u8]) {
     }
     let plain = d.plain;
     let mut out = untouched();
-    write_into(with_nanos(m, number32(c, 1)), plain, &mut out[..room]);
+    write_into(
+        market,
+        with_nanos(m, number32(c, 1)),
+        plain,
+        &mut out[..room],
+    );
 }
 
-fn write_into(m: Message, plain: [u8; PLAIN], out: &mut [u8]) {
-    let w = wire::encode(m, plain, out);
+fn write_into(market: Market, m: Message, plain: [u8; PLAIN], out: &mut [u8]) {
+    let w = wire::encode(market, m, plain, out);
     shown::answer(wire::number_of_written(w));
     shown::position(wire::count_of_written(w));
     shown::bytes(out);
@@ -147,7 +163,7 @@ fn write_into(m: Message, plain: [u8; PLAIN], out: &mut [u8]) {
 }
 
 fn line(b: Book, c: &[u8]) {
-    let d = wire::decode(rest(c, 17));
+    let d = wire::decode(b.market(), rest(c, 17));
     let a = d.answer;
     let Answer::Message(m) = a else {
         unread(a);

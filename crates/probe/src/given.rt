@@ -1,4 +1,5 @@
 // What a call gives: numbers, little-endian, and bytes. Past the end of the call every byte is 0.
+use wire::Named;
 ghost use Prim.Native.Nat.{_≤_};
 ghost use lib.ListN.{length};
 
@@ -30,12 +31,13 @@ pub(crate) fn rest(c: &[u8], from: usize) -> &[u8] {
     if from <= c.len() { &c[from..] } else { &c[..0] }
 }
 
-// How long the call at the start of c is; 0 where it is none, is cut short, or asks for too much room.
+// How long the call at the start of c is; 0 where it is none, is cut short, names no market, or asks for too much room.
 pub(crate) fn length_of(c: &[u8]) -> usize
     ensures { λ r. ⌜ r ≤ length (now (c .entry)) ⌝ }
 {
     let n = match byte_at(c, 0) {
         b'N' => 1,
+        b'M' => with_market(byte_at(c, 1)),
         b'G' => 7 + byte_at(c, 6) as usize,
         b'S' => 5 + number16(c, 3) as usize,
         b'X' => 5 + number16(c, 3) as usize,
@@ -50,6 +52,13 @@ pub(crate) fn length_of(c: &[u8]) -> usize
         return 0;
     }
     n
+}
+
+fn with_market(number: u8) -> usize {
+    match wire::market_named(number as u16) {
+        Named::Market(_) => 2,
+        Named::Unknown => 0,
+    }
 }
 
 // The most room that a written message or a line is given.

@@ -7,6 +7,7 @@ mod timed;
 use book::Book;
 use given::length_of;
 use libc::STDERR_FILENO;
+use wire::Market;
 ghost use mathlib.Core.Path.{_≡_};
 ghost use lib.ListN.{length};
 
@@ -22,7 +23,7 @@ fn space() -> [u8; SPACE]
 }
 
 fn all_calls(s: &[u8]) {
-    let mut b = Book::new();
+    let mut b = Book::new(Market::Nyse);
     let mut at = 0;
     while at < s.len() {
         let n = length_of(&s[at..]);

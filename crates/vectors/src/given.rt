@@ -55,24 +55,24 @@ pub(crate) fn plain_at(c: &[u8], at: u8) -> [u8; PLAIN] {
     r
 }
 
-// The fields stand at: type 1, seconds 3, nanoseconds 7, index 11, number 15, order 19, new order 27, id 35, price 39, volume 43, flag 47, side 48, letter 49,
-// byte array 50, room 103. A type outside the table has no message.
+// The fields stand at: market 1, type 2, seconds 4, nanoseconds 8, index 12, number 16, order 20, new order 28, id 36, price 40, volume 44, flag 48, side 49,
+// letter 50, byte array 51, room 104. A type outside the table has no message.
 pub(crate) fn message_at(c: &[u8]) -> Answer {
-    let seconds = number32(c, 3);
+    let seconds = number32(c, 4);
     let head = Head {
-        nanos: number32(c, 7),
-        index: number32(c, 11),
-        number: number32(c, 15),
+        nanos: number32(c, 8),
+        index: number32(c, 12),
+        number: number32(c, 16),
     };
-    let order = number64(c, 19);
-    let new_order = number64(c, 27);
-    let id = number32(c, 35);
-    let price = number32(c, 39);
-    let volume = number32(c, 43);
-    let flag = byte_at(c, 47);
-    let side = byte_at(c, 48);
-    let letter = byte_at(c, 49);
-    match number16(c, 1) {
+    let order = number64(c, 20);
+    let new_order = number64(c, 28);
+    let id = number32(c, 36);
+    let price = number32(c, 40);
+    let volume = number32(c, 44);
+    let flag = byte_at(c, 48);
+    let side = byte_at(c, 49);
+    let letter = byte_at(c, 50);
+    match number16(c, 2) {
         100 => Answer::Message(Message::Add {
             head,
             order,

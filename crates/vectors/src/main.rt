@@ -15,6 +15,8 @@ use shown::print_number;
 use shown::print_offset;
 use wire::Answer;
 use wire::Fault;
+use wire::Market;
+use wire::Named;
 use wire::Reach;
 ghost use mathlib.Core.Path.{_≡_};
 ghost use Prim.Native.Nat.{_≤_};
@@ -23,8 +25,8 @@ ghost use lib.ListN.{length};
 // The most room that a written message is given.
 const ROOM: usize = 128;
 
-// A call of `M`: its letter, type, fields, byte array and room.
-const MADE: usize = 105;
+// A call of `M`: its letter, market, type, fields, byte array and room.
+const MADE: usize = 106;
 
 fn print_reach(r: Reach) {
     match r {
@@ -53,15 +55,15 @@ fn reach_call(c: &[u8]) -> usize
     end
 }
 
-// `D`: length, bytes.
-fn decode_call(c: &[u8]) -> usize
+// `D`: market, length, bytes.
+fn decode_call(c: &[u8], market: Market) -> usize
     ensures { λ r. ⌜ r ≤ length (now (c .entry)) ⌝ }
 {
-    let end = 3 + number16(c, 1) as usize;
+    let end = 4 + number16(c, 2) as usize;
     if c.len() < end {
         return 0;
     }
-    let d = wire::decode(&c[3..end]);
+    let d = wire::decode(market, &c[4..end]);
     let a = d.answer;
     io::write_all(STDOUT_FILENO, b"D");
     print_number(wire::number_of_answer(a) as u64);
@@ -73,20 +75,21 @@ fn decode_call(c: &[u8]) -> usize
     end
 }
 
-fn write_made(c: &[u8], out: &mut [u8]) {
+fn write_made(c: &[u8], market: Market, out: &mut [u8]) {
     let made = message_at(c);
     let Answer::Message(m) = made else {
         io::write_all(STDOUT_FILENO, b"M,3,0");
         print_bytes(out);
         return;
     };
-    let w = wire::encode(m, plain_at(c, 50), out);
+    let plain = plain_at(c, 51);
+    let w = wire::encode(market, m, plain, out);
     io::write_all(STDOUT_FILENO, b"M");
     print_number(wire::number_of_written(w) as u64);
     print_number(wire::count_of_written(w) as u64);
     print_bytes(out);
     print_offset(wire::offset_of_written(w));
-    if offset_told(wire::bad_field(m)) != wire::offset_of_written(w) {
+    if offset_told(wire::bad_field(market, m, plain)) != wire::offset_of_written(w) {
         io::write_all(STDOUT_FILENO, b"!");
     }
 }
@@ -105,19 +108,19 @@ fn untouched() -> [u8; ROOM]
     [0xAA; ROOM]
 }
 
-// `M`: a message made by hand, and the room to write it in.
-fn make_call(c: &[u8]) -> usize
+// `M`: a market, a message made by hand, and the room to write it in.
+fn make_call(c: &[u8], market: Market) -> usize
     ensures { λ r. ⌜ r ≤ length (now (c .entry)) ⌝ }
 {
     if c.len() < MADE {
         return 0;
     }
-    let room = number16(c, 103) as usize;
+    let room = number16(c, 104) as usize;
     if ROOM < room {
         return 0;
     }
     let mut out = untouched();
-    write_made(c, &mut out[..room]);
+    write_made(c, market, &mut out[..room]);
     MADE
 }
 
@@ -125,10 +128,21 @@ fn make_call(c: &[u8]) -> usize
 fn one_call(c: &[u8]) -> usize
     ensures { λ r. ⌜ r ≤ length (now (c .entry)) ⌝ }
 {
+    if byte_at(c, 0) == b'R' {
+        return reach_call(c);
+    }
+    match wire::market_named(byte_at(c, 1) as u16) {
+        Named::Market(market) => market_call(c, market),
+        Named::Unknown => 0,
+    }
+}
+
+fn market_call(c: &[u8], market: Market) -> usize
+    ensures { λ r. ⌜ r ≤ length (now (c .entry)) ⌝ }
+{
     match byte_at(c, 0) {
-        b'R' => reach_call(c),
-        b'D' => decode_call(c),
-        b'M' => make_call(c),
+        b'D' => decode_call(c, market),
+        b'M' => make_call(c, market),
         _ => 0,
     }
 }

@@ -7,6 +7,7 @@ use Rattle.wire.specs.Outcome.{Outcome, done, refused}
 use Rattle.wire.specs.Message.{typeOf}
 use Rattle.wire.specs.Reading.{msgType, reachOf, Read, readOf}
 use Rattle.wire.specs.declared.Message.{Message}
+use Rattle.wire.specs.declared.markets.Market.{Market}
 use Rattle.wire.proofs.Refusing.{reach-refused}
 use Rattle.wire.proofs.RoundTrip.{keeps}
 use Rattle.wire.proofs.Ways.{HowRead, unreached, unknown-type, other-size, bad-field, good-fields, how-read}
@@ -21,10 +22,10 @@ module _ (s : List ℕ) where
   pub reach-refuses : (a : ℕ) → reachOf s ≡ refused a → (1 ≤ a) × (a ≤ 2)
   reach-refuses = reach-refused (λ (k : ℕ). (1 ≤ k) × (k ≤ 2)) (omega arith, omega arith) (omega arith, omega arith) s
 
-  pub read-tells : Tells (msgType s) (readOf s .outcome)
-  read-tells = go (readOf s) (how-read s)
+  pub read-tells : (market : Market) → Tells (msgType s) (readOf market s .outcome)
+  read-tells market = go (readOf market s) (how-read market s)
     where
-      go : (r : Read) → HowRead s r → Tells (msgType s) (r .outcome)
+      go : (r : Read) → HowRead market s r → Tells (msgType s) (r .outcome)
       go _ (unreached {n = n} e) = (omega (arith, reach-refuses n e .0), omega (arith, reach-refuses n e .1))
       go _ (unknown-type there e) = (omega arith, omega arith)
       go _ (other-size there known e) = (omega arith, omega arith)

@@ -12,10 +12,11 @@ use Rattle.wire.specs.declared.table.Layout.{Layout}
 use Rattle.wire.specs.declared.table.Shape.{Shape}
 use Rattle.wire.specs.declared.Fault.{Fault}
 use Rattle.wire.specs.declared.Message.{Message}
+use Rattle.wire.specs.declared.markets.Market.{Market}
 use Rattle.wire.specs.Outcome.{Outcome, done, refused, only}
 use Rattle.wire.specs.Bytes.{value}
 use Rattle.wire.specs.Table.{shapeOf}
-use Rattle.wire.specs.Fields.{fieldsAt, faultOf}
+use Rattle.wire.specs.Fields.{fieldsAt, arrayAt, arrayOf, faultOf}
 use Rattle.wire.specs.Message.{fieldsOf, typeOf}
 use Rattle.wire.specs.Reading.{leastSize, msgSize, msgType, reachBy, reachOf, noMessage, badMessage, goodRead, readBy, readBody, readSized, readShape, readTyped, readReached, readOf}
 use Rattle.wire.specs.Writing.{leaving, refuse, refuseField, imageOf, writeSized, writeBy, writeShape, writeOf}
@@ -74,52 +75,52 @@ reach-more s t n e =
     (reach-size (s ++ t) (omega (arith, r .least, r .there)) (omega (arith, r .least)) (omega (arith, r .there)) ∙ ap done size, take-append-le n s t (r .there))
 
 -- ---- reading
-module _ (s : List ℕ) where
-  pub read-unreached : (n : ℕ) → reachOf s ≡ refused n → readOf s ≡ noMessage n
+module _ (market : Market) (s : List ℕ) where
+  pub read-unreached : (n : ℕ) → reachOf s ≡ refused n → readOf market s ≡ noMessage n
   unfolding readOf readReached
-  read-unreached n e = ap (λ (x : Outcome ℕ). readReached x s) e
+  read-unreached n e = ap (λ (x : Outcome ℕ). readReached x market s) e
 
-  pub read-reached : (size : ℕ) → reachOf s ≡ done size → readOf s ≡ readTyped s size
+  pub read-reached : (size : ℕ) → reachOf s ≡ done size → readOf market s ≡ readTyped market s size
   unfolding readOf readReached
-  read-reached size e = ap (λ (x : Outcome ℕ). readReached x s) e
+  read-reached size e = ap (λ (x : Outcome ℕ). readReached x market s) e
 
-  pub read-unknown : (size : ℕ) → shapeOf (msgType s) ≡ Shape.Unknown → readTyped s size ≡ noMessage 3
+  pub read-unknown : (size : ℕ) → shapeOf (msgType s) ≡ Shape.Unknown → readTyped market s size ≡ noMessage 3
   unfolding readTyped readShape
-  read-unknown size e = ap (λ (x : Shape). readShape x s size) e
+  read-unknown size e = ap (λ (x : Shape). readShape x market s size) e
 
   module _ (size : ℕ) (l : Layout) (known : shapeOf (msgType s) ≡ Shape.Known l) where
-    pub read-other-size : (size ≡ l .size → ⊥) → readTyped s size ≡ noMessage 2
+    pub read-other-size : (size ≡ l .size → ⊥) → readTyped market s size ≡ noMessage 2
     unfolding readTyped readShape readSized
-    read-other-size h = ap (λ (x : Shape). readShape x s size) known ∙ rw (ne-eqb _ _ h)
+    read-other-size h = ap (λ (x : Shape). readShape x market s size) known ∙ rw (ne-eqb _ _ h)
 
-    pub read-size : size ≡ l .size → readTyped s size ≡ readBody s l
+    pub read-size : size ≡ l .size → readTyped market s size ≡ readBody market s l
     unfolding readTyped readShape readSized
-    read-size h = ap (λ (x : Shape). readShape x s size) known ∙ rw (eq-eqb _ _ h)
+    read-size h = ap (λ (x : Shape). readShape x market s size) known ∙ rw (eq-eqb _ _ h)
 
-  pub read-bad-field : (l : Layout) (n : ℕ) → faultOf l (fieldsAt s l) ≡ Fault.At n → readBody s l ≡ badMessage n
+  pub read-bad-field : (l : Layout) (n : ℕ) → faultOf market l (fieldsAt s l) (arrayAt s l) ≡ Fault.At n → readBody market s l ≡ badMessage n
   unfolding readBody readBy
   read-bad-field l n e = ap (λ (f : Fault). readBy f s l) e
 
-  pub read-good : (l : Layout) → faultOf l (fieldsAt s l) ≡ Fault.Nothing → readBody s l ≡ goodRead s l (fieldsAt s l)
+  pub read-good : (l : Layout) → faultOf market l (fieldsAt s l) (arrayAt s l) ≡ Fault.Nothing → readBody market s l ≡ goodRead s l (fieldsAt s l)
   unfolding readBody readBy
   read-good l e = ap (λ (f : Fault). readBy f s l) e
 
 -- ---- writing
-module _ (m : Message) (plain out : List ℕ) where
-  pub write-unknown : shapeOf (typeOf m) ≡ Shape.Unknown → writeOf m plain out ≡ refuse 3 out
+module _ (market : Market) (m : Message) (plain out : List ℕ) where
+  pub write-unknown : shapeOf (typeOf m) ≡ Shape.Unknown → writeOf market m plain out ≡ refuse 3 out
   unfolding writeOf writeShape
-  write-unknown h = ap (λ (x : Shape). writeShape x m plain out) h
+  write-unknown h = ap (λ (x : Shape). writeShape x market m plain out) h
 
   module _ (l : Layout) (known : shapeOf (typeOf m) ≡ Shape.Known l) where
-    write-known : writeOf m plain out ≡ writeBy (faultOf l (fieldsOf m)) l m plain out
+    write-known : writeOf market m plain out ≡ writeBy (faultOf market l (fieldsOf m) (arrayOf l plain)) l m plain out
     unfolding writeOf writeShape
-    write-known = ap (λ (x : Shape). writeShape x m plain out) known
+    write-known = ap (λ (x : Shape). writeShape x market m plain out) known
 
-    pub write-bad-field : (n : ℕ) → faultOf l (fieldsOf m) ≡ Fault.At n → writeOf m plain out ≡ refuseField n out
+    pub write-bad-field : (n : ℕ) → faultOf market l (fieldsOf m) (arrayOf l plain) ≡ Fault.At n → writeOf market m plain out ≡ refuseField n out
     unfolding writeBy
     write-bad-field n k = write-known ∙ ap (λ (x : Fault). writeBy x l m plain out) k
 
-    pub write-good : faultOf l (fieldsOf m) ≡ Fault.Nothing → writeOf m plain out ≡ writeSized (ltb (length out) (l .size)) (l .size) (imageOf l (typeOf m) (fieldsOf m) plain) out
+    pub write-good : faultOf market l (fieldsOf m) (arrayOf l plain) ≡ Fault.Nothing → writeOf market m plain out ≡ writeSized (ltb (length out) (l .size)) (l .size) (imageOf l (typeOf m) (fieldsOf m) plain) out
     unfolding writeBy
     write-good k = write-known ∙ ap (λ (x : Fault). writeBy x l m plain out) k
 

@@ -1,5 +1,6 @@
 pub mod Numbers
 pub mod ByteArrays
+pub mod Listed
 pub mod Layouts
 pub mod Laying
 pub mod Cases

@@ -15,6 +15,7 @@ use Rattle.wire.specs.Reading.{leastSize, msgSize, reachBy, reachOf, Rea
 use Rattle.wire.specs.Writing.{Write, Fills, imageOf, writeOf}
 use Rattle.wire.specs.declared.table.Shape.{Shape}
 use Rattle.wire.specs.declared.Message.{Message}
+use Rattle.wire.specs.declared.markets.Market.{Market}
 use Rattle.wire.proofs.Cases.{done-is-not-refused, reached, reach-size, own-size}
 use Rattle.wire.proofs.Types.{IsKnown, type-known}
 use Rattle.wire.proofs.Layouts.{layout-sane}
@@ -37,21 +38,21 @@ reach-refused P short small s n = go (ltb (length s) leastSize) (ltb (msgSize s)
     go false false false e = absurd (done-is-not-refused (sym e))
 
 -- ---- reading: what holds of 1 to 4 holds of a refusal, and it hands back zeros
-module _ (P : ℕ → Type 0) (size : P 2) (type : P 3) (field : P 4) (s : List ℕ) where
-  by-way : ((n : ℕ) → reachOf s ≡ refused n → P n) → (r : Read) → HowRead s r → (n : ℕ) → r .outcome ≡ refused n → P n
+module _ (P : ℕ → Type 0) (size : P 2) (type : P 3) (field : P 4) (market : Market) (s : List ℕ) where
+  by-way : ((n : ℕ) → reachOf s ≡ refused n → P n) → (r : Read) → HowRead market s r → (n : ℕ) → r .outcome ≡ refused n → P n
   by-way unread _ (unreached {n = k} q) n e = same-number P k n (unread k q) e
   by-way unread _ (unknown-type there q) n e = same-number P 3 n type e
   by-way unread _ (other-size there known q) n e = same-number P 2 n size e
   by-way unread _ (bad-field there known q) n e = same-number P 4 n field e
   by-way unread _ (good-fields there known q) n e = absurd (done-is-not-refused (sym e))
 
-  pub read-refused : P 1 → (n : ℕ) → readOf s .outcome ≡ refused n → P n
-  read-refused short = by-way (reach-refused P short size s) (readOf s) (how-read s)
+  pub read-refused : P 1 → (n : ℕ) → readOf market s .outcome ≡ refused n → P n
+  read-refused short = by-way (reach-refused P short size s) (readOf market s) (how-read market s)
 
-pub read-zeros : (s : List ℕ) (n : ℕ) → readOf s .outcome ≡ refused n → readOf s .plain ≡ replicate plainRoom 0
-read-zeros s n = go (readOf s) (how-read s)
+pub read-zeros : (market : Market) (s : List ℕ) (n : ℕ) → readOf market s .outcome ≡ refused n → readOf market s .plain ≡ replicate plainRoom 0
+read-zeros market s n = go (readOf market s) (how-read market s)
   where
-    go : (r : Read) → HowRead s r → r .outcome ≡ refused n → r .plain ≡ replicate plainRoom 0
+    go : (r : Read) → HowRead market s r → r .outcome ≡ refused n → r .plain ≡ replicate plainRoom 0
     go _ (unreached q) e = refl
     go _ (unknown-type there q) e = refl
     go _ (other-size there known q) e = refl
@@ -65,37 +66,37 @@ own-reach s n e =
     let long : length (take n s) ≡ n = length-take-le n s (r .there) in
     reach-size (take n s) (omega (arith, r .least)) (omega (arith, r .least, own-size s n e)) (omega (arith, own-size s n e)) ∙ ap done (own-size s n e)
 
-pub reached-refused : (P : ℕ → Type 0) → P 2 → P 3 → P 4 → (s : List ℕ) (n : ℕ) → reachOf s ≡ done n → (k : ℕ) → readOf (take n s) .outcome ≡ refused k → P k
-reached-refused P size type field s n e = by-way P size type field (take n s) (λ k q. absurd (done-is-not-refused (sym q ∙ own-reach s n e))) (readOf (take n s)) (how-read (take n s))
+pub reached-refused : (P : ℕ → Type 0) → P 2 → P 3 → P 4 → (market : Market) (s : List ℕ) (n : ℕ) → reachOf s ≡ done n → (k : ℕ) → readOf market (take n s) .outcome ≡ refused k → P k
+reached-refused P size type field market s n e = by-way P size type field market (take n s) (λ k q. absurd (done-is-not-refused (sym q ∙ own-reach s n e))) (readOf market (take n s)) (how-read market (take n s))
 
 -- ---- writing: what holds of 4 and 15 holds of a refusal, and it leaves the buffer
-module _ (m : Message) (plain out : List ℕ) where
+module _ (market : Market) (m : Message) (plain out : List ℕ) where
   known-type : shapeOf (typeOf m) ≡ Shape.Unknown → ⊥
   known-type e = subst IsKnown e (type-known m)
 
-  pub write-refused : (P : ℕ → Type 0) → P 4 → P 15 → (n : ℕ) → writeOf m plain out .outcome ≡ refused n → P n
-  write-refused P field room n = go (writeOf m plain out) (how-written m plain out)
+  pub write-refused : (P : ℕ → Type 0) → P 4 → P 15 → (n : ℕ) → writeOf market m plain out .outcome ≡ refused n → P n
+  write-refused P field room n = go (writeOf market m plain out) (how-written market m plain out)
     where
-      go : (w : Write) → HowWritten m plain out w → w .outcome ≡ refused n → P n
+      go : (w : Write) → HowWritten market m plain out w → w .outcome ≡ refused n → P n
       go _ (unknown-type q) e = absurd (known-type q)
       go _ (bad-field known q) e = same-number P 4 n field e
       go _ (no-room known good short) e = same-number P 15 n room e
       go _ (all-written known good fits) e = absurd (done-is-not-refused (sym e))
 
-  pub write-untouched : (n : ℕ) → writeOf m plain out .outcome ≡ refused n → writeOf m plain out .out ≡ out
-  write-untouched n = go (writeOf m plain out) (how-written m plain out)
+  pub write-untouched : (n : ℕ) → writeOf market m plain out .outcome ≡ refused n → writeOf market m plain out .out ≡ out
+  write-untouched n = go (writeOf market m plain out) (how-written market m plain out)
     where
-      go : (w : Write) → HowWritten m plain out w → w .outcome ≡ refused n → w .out ≡ out
+      go : (w : Write) → HowWritten market m plain out w → w .outcome ≡ refused n → w .out ≡ out
       go _ (unknown-type q) e = refl
       go _ (bad-field known q) e = refl
       go _ (no-room known good short) e = refl
       go _ (all-written known good fits) e = absurd (done-is-not-refused (sym e))
 
   -- ---- and whatever is answered, no byte beyond the count changes
-  pub write-fills : length plain ≡ plainRoom → Fills out (writeOf m plain out)
-  write-fills long = go (writeOf m plain out) (how-written m plain out)
+  pub write-fills : length plain ≡ plainRoom → Fills out (writeOf market m plain out)
+  write-fills long = go (writeOf market m plain out) (how-written market m plain out)
     where
-      go : (w : Write) → HowWritten m plain out w → Fills out w
+      go : (w : Write) → HowWritten market m plain out w → Fills out w
       go _ (unknown-type q) = record { long = refl; within = omega arith; beyond = refl }
       go _ (bad-field known q) = record { long = refl; within = omega arith; beyond = refl }
       go _ (no-room known good short) = record { long = refl; within = omega arith; beyond = refl }

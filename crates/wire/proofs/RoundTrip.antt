@@ -4,20 +4,21 @@ use mathlib.Core.List.{List, _++_}
 use Prim.Native.Nat.{ℕ, _-_, _≤_}
 use native.Mathlib.Omega.{arith}
 use lib.ListN.{length, take, drop}
-use lib.Seq.{slice}
 use Rattle.wire.specs.declared.table.Layout.{Layout}
 use Rattle.wire.specs.declared.table.Shape.{Shape}
 use Rattle.wire.specs.declared.Fault.{Fault}
 use Rattle.wire.specs.declared.Message.{Message}
+use Rattle.wire.specs.declared.markets.Market.{Market}
 use Rattle.wire.specs.Outcome.{done, only}
 use Rattle.wire.specs.Bytes.{paddedPlain, plainRoom}
 use Rattle.wire.specs.Table.{shapeOf, table}
-use Rattle.wire.specs.Fields.{fieldsAt, faultOf, endsOf, valuesOf}
+use Rattle.wire.specs.Fields.{fieldsAt, arrayAt, arrayOf, faultOf, endsOf, valuesOf}
 use Rattle.wire.specs.Message.{messageOf, fieldsOf, typeOf}
 use Rattle.wire.specs.Reading.{msgSize, msgType, Read, readAs, goodRead, readOf}
 use Rattle.wire.specs.Writing.{Write, leaving, imageOf, writeOf}
 use Rattle.wire.specs.RoundTrip.{InRange, Bytes, arrayWidth, sameMessage, ReadsBack, ReservedZero, WritesBack}
 use Rattle.wire.proofs.Numbers.{value-empty}
+use Rattle.wire.proofs.ByteArrays.{array-again}
 use Rattle.wire.proofs.Layouts.{AllRows, by-rows, at-row, layout-sane}
 use Rattle.wire.proofs.Cases.{done-is-not-refused, reached, reach-size, read-reached, read-size, read-good, write-good, write-room}
 use Rattle.wire.proofs.Rows.{WithinWidths}
@@ -60,9 +61,9 @@ keeps = by-rows Keeps kept-row
 
 -- ---- reading what was written
 
-module _ (m : Message) (plain out : List ℕ) (long : length plain ≡ plainRoom) (w : InRange (fieldsOf m)) where
-  module _ (l : Layout) (known : shapeOf (typeOf m) ≡ Shape.Known l) (good : faultOf l (fieldsOf m) ≡ Fault.Nothing) where
-    read-image : (rest : List ℕ) → readOf (imageOf l (typeOf m) (fieldsOf m) plain ++ rest) ≡ readAs (only (done m)) (paddedPlain (take (l .pad - l .plain) plain))
+module _ (market : Market) (m : Message) (plain out : List ℕ) (long : length plain ≡ plainRoom) (w : InRange (fieldsOf m)) where
+  module _ (l : Layout) (known : shapeOf (typeOf m) ≡ Shape.Known l) (good : faultOf market l (fieldsOf m) (arrayOf l plain) ≡ Fault.Nothing) where
+    read-image : (rest : List ℕ) → readOf market (imageOf l (typeOf m) (fieldsOf m) plain ++ rest) ≡ readAs (only (done m)) (paddedPlain (take (l .pad - l .plain) plain))
     read-image rest =
         let f = fieldsOf m in
         let sane = layout-sane (typeOf m) l known in
@@ -72,17 +73,17 @@ module _ (m : Message) (plain out : List ℕ) (long : length plain ≡ plainRoom
         let type : msgType s ≡ typeOf m = image-type l sane (typeOf m) f plain rest long (u .fit) in
         let fields : fieldsAt s l ≡ f = image-fields l sane (typeOf m) f plain rest long (u .fit) in
         let there : l .size ≤ length s = image-there l sane (typeOf m) f plain rest long in
-        read-reached s (msgSize s) (reach-size s (omega arith) (omega arith) (omega arith))
-        ∙ read-size s (msgSize s) l (ap shapeOf type ∙ known) size
-        ∙ read-good s l (ap (faultOf l) fields ∙ good)
+        read-reached market s (msgSize s) (reach-size s (omega arith) (omega arith) (omega arith))
+        ∙ read-size market s (msgSize s) l (ap shapeOf type ∙ known) size
+        ∙ read-good market s l ((λ i. faultOf market l (fields i) (image-array l sane (typeOf m) f plain rest long i)) ∙ good)
         ∙ (λ i. readAs (only (done ((ap (messageOf (l .kind)) fields ∙ u .again) i))) (paddedPlain (image-array l sane (typeOf m) f plain rest long i)))
 
   -- of the ways of writing only the last one is done
-  pub read-what-was-written : ReadsBack m plain (writeOf m plain out)
+  pub read-what-was-written : ReadsBack market m plain (writeOf market m plain out)
   unfolding ReadsBack
-  read-what-was-written n = go (writeOf m plain out) (how-written m plain out)
+  read-what-was-written n = go (writeOf market m plain out) (how-written market m plain out)
     where
-      go : (x : Write) → HowWritten m plain out x → x .outcome ≡ done n → readOf (x .out) ≡ sameMessage m plain
+      go : (x : Write) → HowWritten market m plain out x → x .outcome ≡ done n → readOf market (x .out) ≡ sameMessage m plain
       go _ (unknown-type q) e = absurd (done-is-not-refused e)
       go _ (bad-field known q) e = absurd (done-is-not-refused e)
       go _ (no-room known good short) e = absurd (done-is-not-refused e)
@@ -91,29 +92,30 @@ module _ (m : Message) (plain out : List ℕ) (long : length plain ≡ plainRoom
 
 -- ---- writing what was read
 
-module _ (s : List ℕ) (bytes : Bytes s) (m : Message) (out : List ℕ) where
+module _ (market : Market) (s : List ℕ) (bytes : Bytes s) (m : Message) (out : List ℕ) where
   abbrev WroteAll : Read → Type 0
-  WroteAll r = writeOf m (r .plain) out ≡ leaving (only (done (msgSize s))) (take (msgSize s) s ++ drop (msgSize s) out)
+  WroteAll r = writeOf market m (r .plain) out ≡ leaving (only (done (msgSize s))) (take (msgSize s) s ++ drop (msgSize s) out)
 
   module _ (l : Layout) (known : shapeOf (msgType s) ≡ Shape.Known l) (size : msgSize s ≡ l .size) (there : msgSize s ≤ length s) (room : msgSize s ≤ length out) where
-    wrote-all : faultOf l (fieldsAt s l) ≡ Fault.Nothing → messageOf (l .kind) (fieldsAt s l) ≡ m → ReservedZero (Shape.Known l) s → WroteAll (goodRead s l (fieldsAt s l))
+    wrote-all : faultOf market l (fieldsAt s l) (arrayAt s l) ≡ Fault.Nothing → messageOf (l .kind) (fieldsAt s l) ≡ m → ReservedZero (Shape.Known l) s → WroteAll (goodRead s l (fieldsAt s l))
     wrote-all good is zero =
         let kept = keeps (msgType s) l known in
         let type : typeOf m ≡ msgType s = ap typeOf (sym is) ∙ kept .type s in
         let fields : fieldsOf m ≡ fieldsAt s l = ap fieldsOf (sym is) ∙ kept .fields s in
-        let plain = paddedPlain (slice (l .plain) (l .pad) s) in
-        let image = image-of-read s l bytes (layout-sane (msgType s) l known) size (omega arith) (zero .0) (zero .1) in
-        write-good m plain out l (ap shapeOf type ∙ known) (ap (faultOf l) fields ∙ good)
+        let plain = paddedPlain (arrayAt s l) in
+        let sane = layout-sane (msgType s) l known in
+        let image = image-of-read s l bytes sane size (omega arith) (zero .0) (zero .1) in
+        write-good market m plain out l (ap shapeOf type ∙ known) ((λ i. faultOf market l (fields i) (array-again s l sane (omega arith) i)) ∙ good)
         ∙ write-room (l .size) (imageOf l (typeOf m) (fieldsOf m) plain) out (omega arith)
         ∙ (λ i. leaving (only (done (sym size i))) (((λ j. imageOf l (type j) (fields j) plain) ∙ image) i ++ drop (l .size) out))
         ∙ (λ i. leaving (only (done (msgSize s))) (take (sym size i) s ++ drop (sym size i) out))
 
 -- of the ways of reading only the last one is done
-pub write-what-was-read : (s : List ℕ) → Bytes s → WritesBack s (readOf s)
+pub write-what-was-read : (market : Market) (s : List ℕ) → Bytes s → WritesBack market s (readOf market s)
 unfolding WritesBack
-write-what-was-read s bytes m = go (readOf s) (how-read s)
+write-what-was-read market s bytes m = go (readOf market s) (how-read market s)
   where
-    go : (r : Read) → HowRead s r → r .outcome ≡ done m → ReservedZero (shapeOf (msgType s)) s → (out : List ℕ) → msgSize s ≤ length out → WroteAll s bytes m out r
+    go : (r : Read) → HowRead market s r → r .outcome ≡ done m → ReservedZero (shapeOf (msgType s)) s → (out : List ℕ) → msgSize s ≤ length out → WroteAll market s bytes m out r
     go _ (unreached q) e zero out room = absurd (done-is-not-refused e)
     go _ (unknown-type there q) e zero out room = absurd (done-is-not-refused e)
     go _ (other-size there known q) e zero out room = absurd (done-is-not-refused e)
@@ -121,4 +123,4 @@ write-what-was-read s bytes m = go (readOf s) (how-read s)
     go _ (good-fields {l = l} there known q) e zero out room =
         let r = reached s (l .size) there in
         let is : messageOf (l .kind) (fieldsAt s l) ≡ m = cc in
-        wrote-all s bytes m out l known (r .size) (omega (arith, r .size, r .there)) room q is (subst (λ (x : Shape). ReservedZero x s) known zero)
+        wrote-all market s bytes m out l known (r .size) (omega (arith, r .size, r .there)) room q is (subst (λ (x : Shape). ReservedZero x s) known zero)

@@ -5,6 +5,7 @@ use Prim.Native.Nat.{ℕ}
 use native.Mathlib.Omega.{arith}
 use Rattle.wire.specs.declared.table.Shape.{Shape}
 use Rattle.wire.specs.declared.Message.{Message}
+use Rattle.wire.specs.declared.markets.Market.{Market}
 use Rattle.wire.specs.Outcome.{refused}
 use Rattle.wire.specs.Table.{shapeOf}
 use Rattle.wire.specs.Message.{typeOf}
@@ -32,10 +33,10 @@ type-known (Message.Retail h c) = tt
 type-known (Message.Clear h s) = tt
 type-known (Message.Status h s) = tt
 
-pub writer-never-answers-3 : (m : Message) (plain out : List ℕ) → writeOf m plain out .outcome ≡ refused 3 → ⊥
-writer-never-answers-3 m plain out = go (writeOf m plain out) (how-written m plain out)
+pub writer-never-answers-3 : (market : Market) (m : Message) (plain out : List ℕ) → writeOf market m plain out .outcome ≡ refused 3 → ⊥
+writer-never-answers-3 market m plain out = go (writeOf market m plain out) (how-written market m plain out)
   where
-    go : (w : Write) → HowWritten m plain out w → w .outcome ≡ refused 3 → ⊥
+    go : (w : Write) → HowWritten market m plain out w → w .outcome ≡ refused 3 → ⊥
     go _ (unknown-type q) e = subst IsKnown q (type-known m)
     go _ (bad-field known q) e = let z : _≡_ {A = ℕ} 4 3 = cc in omega arith
     go _ (no-room known good short) e = let z : _≡_ {A = ℕ} 15 3 = cc in omega arith

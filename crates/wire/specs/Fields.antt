@@ -1,16 +1,25 @@
 -- The fields of a message, by its layout, and document 01's bad fields.
-use Prim.Native.Nat.{ℕ, _+_, _≤_}
+use Prim.Native.Nat.{ℕ, _+_, _-_, _≤_}
 use mathlib.Core.Path.{_≡_}
 use mathlib.Core.List.{List, [], _∷_}
 use mathlib.Core.Bool.{Bool, true, false, cond, not}
 use lib.Dec.{eqb, ltb, leb}
+use lib.ListN.{take, getD}
+use lib.Seq.{slice}
 use Rattle.wire.specs.Outcome.{Answered, done, only, badAt}
 use Rattle.wire.specs.Bytes.{valueAt, plainRoom}
+use Rattle.wire.specs.Markets.{listed}
 use Rattle.wire.specs.declared.table.Layout.{Layout}
 use Rattle.wire.specs.declared.fields.Fields.{Fields}
 use Rattle.wire.specs.declared.Fault.{Fault}
+use Rattle.wire.specs.declared.markets.Market.{Market}
 
--- The fields follow one another, and none is wider than its type.
+-- how many conditions a type's array holds, one a byte
+abbrev pub conditionsIn : Bool → ℕ
+conditionsIn false = 0
+conditionsIn true = 4
+
+-- The fields follow one another, and none is wider than its type; the conditions lie within the array.
 pub record Sane (l : Layout) : Type 0 where
   pub form₀ : 4 ≤ l .form
   pub form₁ : l .form ≤ 8
@@ -35,6 +44,7 @@ pub record Sane (l : Layout) : Type 0 where
   pub plain₁ : l .plain ≤ l .gap + 1
   pub pad₀ : l .plain ≤ l .pad
   pub pad₁ : l .pad ≤ l .plain + plainRoom
+  pub coded₀ : l .plain + conditionsIn (l .coded) ≤ l .pad
   pub size₀ : l .pad ≤ l .size
   pub size₁ : l .size ≤ l .pad + 1
 
@@ -54,6 +64,13 @@ fieldsAt s l = record {
   side = valueAt s (l .side) (l .letter);
   letter = valueAt s (l .letter) (l .gap);
 }
+
+-- the bytes of its array: of a message that is read, and of one that is made with an array of its own beside it
+abbrev pub arrayAt : List ℕ → Layout → List ℕ
+arrayAt s l = slice (l .plain) (l .pad) s
+
+abbrev pub arrayOf : Layout → List ℕ → List ℕ
+arrayOf l plain = take (l .pad - l .plain) plain
 
 -- ---- bad fields
 
@@ -90,22 +107,36 @@ pub record Check : Type 0 where
   pub at : ℕ
   pub bad : Bool
 
--- nanoseconds, volume, flag and side, in the order of their offsets
-abbrev pub checksOf : Layout → Fields → List Check
-checksOf l f =
+-- a condition that its market does not list
+abbrev pub conditionAt : ℕ → Market → ℕ → ℕ → Check
+conditionAt at market position c = record { at = at; bad = not (listed market position c) }
+
+-- the four of them, only where the type's array holds conditions
+abbrev pub conditionsAt : Bool → ℕ → Market → List ℕ → List Check
+conditionsAt false at market array = []
+conditionsAt true at market array =
+    conditionAt at market 0 (getD array 0 0)
+    ∷ conditionAt (at + 1) market 1 (getD array 1 0)
+    ∷ conditionAt (at + 2) market 2 (getD array 2 0)
+    ∷ conditionAt (at + 3) market 3 (getD array 3 0)
+    ∷ []
+
+-- nanoseconds, volume, flag, side and conditions, in the order of their offsets
+abbrev pub checksOf : Market → Layout → Fields → List ℕ → List Check
+checksOf market l f array =
     record { at = l .form; bad = nanosBad (f .nanos) }
     ∷ record { at = l .volume; bad = volumeBad (l .positive) (f .volume) }
     ∷ record { at = l .flag; bad = flagBad (f .flag) }
     ∷ record { at = l .side; bad = sideBad (ltb (l .side) (l .letter)) (f .side) }
-    ∷ []
+    ∷ conditionsAt (l .coded) (l .plain) market array
 
 -- the first bad one
 unfoldable pub firstBad : List Check → Fault
 firstBad [] = Fault.Nothing
 firstBad (c ∷ cs) = cond (c .bad) (Fault.At (c .at)) (firstBad cs)
 
-unfoldable pub faultOf : Layout → Fields → Fault
-faultOf l f = firstBad (checksOf l f)
+unfoldable pub faultOf : Market → Layout → Fields → List ℕ → Fault
+faultOf market l f array = firstBad (checksOf market l f array)
 
 -- document 01's number of each case, with the offset
 abbrev pub faultAs : Fault → Answered (Unit {0})

@@ -1,5 +1,6 @@
 pub mod Outcome
 pub mod Bytes
+pub mod Markets
 pub mod Table
 pub mod Fields
 pub mod Message

@@ -1,12 +1,14 @@
 -- Typed messages: which fields each type has, and its number.
 use Prim.Native.Nat.{ℕ}
+use mathlib.Core.List.{List}
 use Rattle.wire.specs.Outcome.{Answered}
 use Rattle.wire.specs.Table.{shapeOf}
-use Rattle.wire.specs.Fields.{faultOf, faultAs}
+use Rattle.wire.specs.Fields.{arrayOf, faultOf, faultAs}
 use Rattle.wire.specs.declared.table.Shape.{Shape}
 use Rattle.wire.specs.declared.table.Kind.{Kind}
 use Rattle.wire.specs.declared.fields.Fields.{Fields}
 use Rattle.wire.specs.declared.Fault.{Fault}
+use Rattle.wire.specs.declared.markets.Market.{Market}
 use Rattle.wire.specs.declared.Head.{Head}
 use Rattle.wire.specs.declared.Message.{Message}
 use Rattle.wire.specs.declared.Message.the-variants.{Add, Modify, Delete, Execute, Replace, Imbalance, NonDisplayed, Cross, TradeCancel, CrossCorrection, Retail, Clear, Status}
@@ -82,14 +84,14 @@ typeOf (Status h seconds) = 34
 abbrev pub indexIn : Message → ℕ
 indexIn m = fieldsOf m .index
 
--- its first bad field
-abbrev pub faultUnder : Shape → Message → Fault
-faultUnder Shape.Unknown m = Fault.Nothing
-faultUnder (Shape.Known l) m = faultOf l (fieldsOf m)
+-- its first bad field, with its array beside it
+abbrev pub faultUnder : Shape → Market → Message → List ℕ → Fault
+faultUnder Shape.Unknown market m plain = Fault.Nothing
+faultUnder (Shape.Known l) market m plain = faultOf market l (fieldsOf m) (arrayOf l plain)
 
-unfoldable pub faultIn : Message → Fault
-faultIn m = faultUnder (shapeOf (typeOf m)) m
+unfoldable pub faultIn : Market → Message → List ℕ → Fault
+faultIn market m plain = faultUnder (shapeOf (typeOf m)) market m plain
 
 -- 0, or 4 with the offset of that field
-abbrev pub badFieldOf : Message → Answered (Unit {0})
-badFieldOf m = faultAs (faultIn m)
+abbrev pub badFieldOf : Market → Message → List ℕ → Answered (Unit {0})
+badFieldOf market m plain = faultAs (faultIn market m plain)

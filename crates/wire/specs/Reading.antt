@@ -4,16 +4,16 @@ use mathlib.Core.List.{List}
 use mathlib.Core.Bool.{Bool, true, false}
 use lib.ListN.{length, replicate}
 use lib.Dec.{eqb, ltb}
-use lib.Seq.{slice}
 use Rattle.wire.specs.Outcome.{Outcome, done, refused, Answered, only, badAt}
 use Rattle.wire.specs.Bytes.{valueAt, paddedPlain, plainRoom}
 use Rattle.wire.specs.Table.{shapeOf}
-use Rattle.wire.specs.Fields.{fieldsAt, faultOf}
+use Rattle.wire.specs.Fields.{fieldsAt, arrayAt, faultOf}
 use Rattle.wire.specs.Message.{messageOf}
 use Rattle.wire.specs.declared.table.Layout.{Layout}
 use Rattle.wire.specs.declared.table.Shape.{Shape}
 use Rattle.wire.specs.declared.fields.Fields.{Fields}
 use Rattle.wire.specs.declared.Fault.{Fault}
+use Rattle.wire.specs.declared.markets.Market.{Market}
 use Rattle.wire.specs.declared.Message.{Message}
 use Rattle.wire.specs.declared.Reach.{Reach}
 use Rattle.wire.specs.declared.Answer.{Answer}
@@ -82,32 +82,32 @@ refusedRead a = record { answer = a; plain = replicate plainRoom 0 }
 
 -- the message of these fields, with its byte array
 abbrev pub goodRead : List ℕ → Layout → Fields → Read
-goodRead s l f = readAs (only (done (messageOf (l .kind) f))) (paddedPlain (slice (l .plain) (l .pad) s))
+goodRead s l f = readAs (only (done (messageOf (l .kind) f))) (paddedPlain (arrayAt s l))
 
 -- the fields
 unfoldable pub readBy : Fault → List ℕ → Layout → Read
 readBy (Fault.At n) s l = badMessage n
 readBy Fault.Nothing s l = goodRead s l (fieldsAt s l)
 
-unfoldable pub readBody : List ℕ → Layout → Read
-readBody s l = readBy (faultOf l (fieldsAt s l)) s l
+unfoldable pub readBody : Market → List ℕ → Layout → Read
+readBody market s l = readBy (faultOf market l (fieldsAt s l) (arrayAt s l)) s l
 
 -- the type, then the size: is Msg Size the size of the type?
-unfoldable pub readSized : Bool → List ℕ → Layout → Read
-readSized false s l = noMessage 2
-readSized true s l = readBody s l
+unfoldable pub readSized : Bool → Market → List ℕ → Layout → Read
+readSized false market s l = noMessage 2
+readSized true market s l = readBody market s l
 
-unfoldable pub readShape : Shape → List ℕ → ℕ → Read
-readShape Shape.Unknown s size = noMessage 3
-readShape (Shape.Known l) s size = readSized (eqb size (l .size)) s l
+unfoldable pub readShape : Shape → Market → List ℕ → ℕ → Read
+readShape Shape.Unknown market s size = noMessage 3
+readShape (Shape.Known l) market s size = readSized (eqb size (l .size)) market s l
 
-unfoldable pub readTyped : List ℕ → ℕ → Read
-readTyped s size = readShape (shapeOf (msgType s)) s size
+unfoldable pub readTyped : Market → List ℕ → ℕ → Read
+readTyped market s size = readShape (shapeOf (msgType s)) market s size
 
-unfoldable pub readReached : Outcome ℕ → List ℕ → Read
-readReached (refused n) s = noMessage n
-readReached (done size) s = readTyped s size
+unfoldable pub readReached : Outcome ℕ → Market → List ℕ → Read
+readReached (refused n) market s = noMessage n
+readReached (done size) market s = readTyped market s size
 
--- the message at the start of s
-unfoldable pub readOf : List ℕ → Read
-readOf s = readReached (reachOf s) s
+-- the message at the start of s, as a market sends it
+unfoldable pub readOf : Market → List ℕ → Read
+readOf market s = readReached (reachOf s) market s

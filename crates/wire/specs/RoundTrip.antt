@@ -1,4 +1,4 @@
--- Demand 2's round trips: messages go to bytes and back.
+-- Demand 2's round trips: messages go to bytes and back, under every market, one and the same on both ways.
 use Prim.Native.Nat.{ℕ, _-_, _^_, _≤_, _<_}
 use mathlib.Core.List.{List, _++_}
 use mathlib.Core.Path.{_≡_}
@@ -12,6 +12,7 @@ use Rattle.wire.specs.Writing.{Write, leaving, writeOf}
 use Rattle.wire.specs.declared.table.Shape.{Shape}
 use Rattle.wire.specs.declared.fields.Fields.{Fields}
 use Rattle.wire.specs.declared.Message.{Message}
+use Rattle.wire.specs.declared.markets.Market.{Market}
 
 -- What the types of the code say: each field is within its type, and each element of a slice is a byte.
 pub record InRange (f : Fields) : Type 0 where
@@ -41,8 +42,8 @@ abbrev pub sameMessage : Message → List ℕ → Read
 sameMessage m plain = readAs (only (done m)) (paddedPlain (take (arrayWidth (shapeOf (typeOf m))) plain))
 
 -- Reading what was written gives the same message.
-unfoldable pub ReadsBack : Message → List ℕ → Write → Type 0
-ReadsBack m plain w = (n : ℕ) → w .outcome ≡ done n → readOf (w .out) ≡ sameMessage m plain
+unfoldable pub ReadsBack : Market → Message → List ℕ → Write → Type 0
+ReadsBack market m plain w = (n : ℕ) → w .outcome ≡ done n → readOf market (w .out) ≡ sameMessage m plain
 
 -- the reserved bytes of a message of this shape are zero
 abbrev pub ReservedZero : Shape → List ℕ → Type 0
@@ -50,6 +51,6 @@ ReservedZero Shape.Unknown s = Unit {0}
 ReservedZero (Shape.Known l) s = (valueAt s (l .gap) (l .plain) ≡ 0) × (valueAt s (l .pad) (l .size) ≡ 0)
 
 -- Writing what was read gives the same bytes, where the reserved bytes are zero.
-unfoldable pub WritesBack : List ℕ → Read → Type 0
-WritesBack s r = (m : Message) → r .outcome ≡ done m → ReservedZero (shapeOf (msgType s)) s → (out : List ℕ) → msgSize s ≤ length out →
-    writeOf m (r .plain) out ≡ leaving (only (done (msgSize s))) (take (msgSize s) s ++ drop (msgSize s) out)
+unfoldable pub WritesBack : Market → List ℕ → Read → Type 0
+WritesBack market s r = (m : Message) → r .outcome ≡ done m → ReservedZero (shapeOf (msgType s)) s → (out : List ℕ) → msgSize s ≤ length out →
+    writeOf market m (r .plain) out ≡ leaving (only (done (msgSize s))) (take (msgSize s) s ++ drop (msgSize s) out)

@@ -85,33 +85,41 @@ positive = true
 abbrev pub any : Bool
 any = false
 
--- A row: number, kind, whether volume 0 is bad, size, form, further fields
+-- does its array hold conditions?
+abbrev pub coded : Bool
+coded = true
+
+abbrev pub free : Bool
+free = false
+
+-- A row: number, kind, whether volume 0 is bad, whether its array holds conditions, size, form, further fields
 pub record Row : Type 0 where
   pub number : ℕ
   pub kind : Kind
   pub volumes : Bool
+  pub codes : Bool
   pub size : ℕ
   pub form : ℕ
   pub entries : List Entry
 
-abbrev pub row : ℕ → Kind → Bool → ℕ → ℕ → List Entry → Row
-row n k v size form es = record { number = n; kind = k; volumes = v; size = size; form = form; entries = es }
+abbrev pub row : ℕ → Kind → Bool → Bool → ℕ → ℕ → List Entry → Row
+row n k v c size form es = record { number = n; kind = k; volumes = v; codes = c; size = size; form = form; entries = es }
 
 abbrev pub table : List Row
 table =
-    row 100 Add positive 39 formN (field order 16 8 ∷ field price 24 4 ∷ field volume 28 4 ∷ field side 32 1 ∷ field firm 33 5 ∷ field reserved 38 1 ∷ [])
-    ∷ row 101 Modify positive 35 formN (field order 16 8 ∷ field price 24 4 ∷ field volume 28 4 ∷ field position 32 1 ∷ field side 33 1 ∷ field reserved 34 1 ∷ [])
-    ∷ row 102 Delete any 25 formN (field order 16 8 ∷ field reserved 24 1 ∷ [])
-    ∷ row 103 Execute positive 42 formN (field order 16 8 ∷ field trade 24 4 ∷ field price 28 4 ∷ field volume 32 4 ∷ field printable 36 1 ∷ field reserved-before 37 1 ∷ field conditions 38 4 ∷ [])
-    ∷ row 104 Replace positive 42 formN (field order 16 8 ∷ field new-order 24 8 ∷ field price 32 4 ∷ field volume 36 4 ∷ field side 40 1 ∷ field reserved 41 1 ∷ [])
-    ∷ row 105 Imbalance any 73 formS (field plain 20 53 ∷ [])
-    ∷ row 110 NonDisplayed positive 33 formN (field trade 16 4 ∷ field price 20 4 ∷ field volume 24 4 ∷ field printable 28 1 ∷ field conditions 29 4 ∷ [])
-    ∷ row 111 Cross any 29 formN (field cross 16 4 ∷ field price 20 4 ∷ field volume 24 4 ∷ field cross-type 28 1 ∷ [])
-    ∷ row 112 TradeCancel any 20 formN (field trade 16 4 ∷ [])
-    ∷ row 113 CrossCorrection any 24 formN (field cross 16 4 ∷ field volume 20 4 ∷ [])
-    ∷ row 114 Retail any 17 formN (field indicator 16 1 ∷ [])
-    ∷ row 32 Clear any 20 formS []
-    ∷ row 34 Status any 46 formS (field plain 20 26 ∷ [])
+    row 100 Add positive free 39 formN (field order 16 8 ∷ field price 24 4 ∷ field volume 28 4 ∷ field side 32 1 ∷ field firm 33 5 ∷ field reserved 38 1 ∷ [])
+    ∷ row 101 Modify positive free 35 formN (field order 16 8 ∷ field price 24 4 ∷ field volume 28 4 ∷ field position 32 1 ∷ field side 33 1 ∷ field reserved 34 1 ∷ [])
+    ∷ row 102 Delete any free 25 formN (field order 16 8 ∷ field reserved 24 1 ∷ [])
+    ∷ row 103 Execute positive coded 42 formN (field order 16 8 ∷ field trade 24 4 ∷ field price 28 4 ∷ field volume 32 4 ∷ field printable 36 1 ∷ field reserved-before 37 1 ∷ field conditions 38 4 ∷ [])
+    ∷ row 104 Replace positive free 42 formN (field order 16 8 ∷ field new-order 24 8 ∷ field price 32 4 ∷ field volume 36 4 ∷ field side 40 1 ∷ field reserved 41 1 ∷ [])
+    ∷ row 105 Imbalance any free 73 formS (field plain 20 53 ∷ [])
+    ∷ row 110 NonDisplayed positive coded 33 formN (field trade 16 4 ∷ field price 20 4 ∷ field volume 24 4 ∷ field printable 28 1 ∷ field conditions 29 4 ∷ [])
+    ∷ row 111 Cross any free 29 formN (field cross 16 4 ∷ field price 20 4 ∷ field volume 24 4 ∷ field cross-type 28 1 ∷ [])
+    ∷ row 112 TradeCancel any free 20 formN (field trade 16 4 ∷ [])
+    ∷ row 113 CrossCorrection any free 24 formN (field cross 16 4 ∷ field volume 20 4 ∷ [])
+    ∷ row 114 Retail any free 17 formN (field indicator 16 1 ∷ [])
+    ∷ row 32 Clear any free 20 formS []
+    ∷ row 34 Status any free 46 formS (field plain 20 26 ∷ [])
     ∷ []
 
 -- ---- the test that each row tiles its message: after the form's 12 bytes its fields stand one after the other, in the one order, up to its size
@@ -143,6 +151,7 @@ layoutOf r =
     record {
       kind = r .kind;
       positive = r .volumes;
+      coded = r .codes;
       size = r .size;
       form = r .form;
       order = a;

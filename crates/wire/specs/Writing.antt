@@ -3,17 +3,18 @@ use Prim.Native.Nat.{ℕ, _-_, _≤_}
 use mathlib.Core.List.{List, _++_}
 use mathlib.Core.Bool.{Bool, true, false}
 use mathlib.Core.Path.{_≡_}
-use lib.ListN.{length, take, drop}
+use lib.ListN.{length, drop}
 use lib.Dec.{ltb}
 use Rattle.wire.specs.Outcome.{Outcome, done, refused, Answered, only, badAt}
 use Rattle.wire.specs.Bytes.{littleEndian, bytesOf}
 use Rattle.wire.specs.Table.{shapeOf}
-use Rattle.wire.specs.Fields.{faultOf, endsOf, valuesOf}
+use Rattle.wire.specs.Fields.{arrayOf, faultOf, endsOf, valuesOf}
 use Rattle.wire.specs.Message.{fieldsOf, typeOf}
 use Rattle.wire.specs.declared.table.Layout.{Layout}
 use Rattle.wire.specs.declared.table.Shape.{Shape}
 use Rattle.wire.specs.declared.fields.Fields.{Fields}
 use Rattle.wire.specs.declared.Fault.{Fault}
+use Rattle.wire.specs.declared.markets.Market.{Market}
 use Rattle.wire.specs.declared.Message.{Message}
 use Rattle.wire.specs.declared.Written.{Written}
 
@@ -56,7 +57,7 @@ pub record Fills (out : List ℕ) (w : Write) : Type 0 where
 
 -- the bytes of a message: its numbers, its byte array at the type's own width, and zero in the reserved byte at the end
 unfoldable pub imageOf : Layout → ℕ → Fields → List ℕ → List ℕ
-imageOf l type f plain = bytesOf 0 (endsOf l) (valuesOf (l .size) type f) ++ take (l .pad - l .plain) plain ++ littleEndian (l .size - l .pad) 0
+imageOf l type f plain = bytesOf 0 (endsOf l) (valuesOf (l .size) type f) ++ arrayOf l plain ++ littleEndian (l .size - l .pad) 0
 
 -- is the buffer shorter than the message?
 unfoldable pub writeSized : Bool → ℕ → List ℕ → List ℕ → Write
@@ -67,10 +68,10 @@ unfoldable pub writeBy : Fault → Layout → Message → List ℕ → List ℕ 
 writeBy (Fault.At n) l m plain out = refuseField n out
 writeBy Fault.Nothing l m plain out = writeSized (ltb (length out) (l .size)) (l .size) (imageOf l (typeOf m) (fieldsOf m) plain) out
 
-unfoldable pub writeShape : Shape → Message → List ℕ → List ℕ → Write
-writeShape Shape.Unknown m plain out = refuse 3 out
-writeShape (Shape.Known l) m plain out = writeBy (faultOf l (fieldsOf m)) l m plain out
+unfoldable pub writeShape : Shape → Market → Message → List ℕ → List ℕ → Write
+writeShape Shape.Unknown market m plain out = refuse 3 out
+writeShape (Shape.Known l) market m plain out = writeBy (faultOf market l (fieldsOf m) (arrayOf l plain)) l m plain out
 
--- the message at the start of out
-unfoldable pub writeOf : Message → List ℕ → List ℕ → Write
-writeOf m plain out = writeShape (shapeOf (typeOf m)) m plain out
+-- the message at the start of out, as a market sends it
+unfoldable pub writeOf : Market → Message → List ℕ → List ℕ → Write
+writeOf market m plain out = writeShape (shapeOf (typeOf m)) market m plain out

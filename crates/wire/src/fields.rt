@@ -1,15 +1,20 @@
 // The fields of a message of any type, and the rules that they keep.
 use crate::BUY;
 use crate::Fault;
+use crate::Market;
+use crate::PLAIN;
 use crate::SELL;
 use crate::bytes::get;
 use crate::bytes::get8;
 use crate::bytes::get32;
+use crate::markets::condition_listed;
 use crate::table::Layout;
 ghost use mathlib.Core.Path.{_≡_};
-ghost use Prim.Native.Nat.{_≤_};
+ghost use Prim.Native.Nat.{_+_, _^_, _≤_, _<_};
+ghost use mathlib.Core.Bool.{true, not};
 ghost use lib.ListN.{length};
-ghost use Rattle.wire.specs.Fields.{Sane, fieldsAt, sideBad, volumeBad, faultOf, endsOf, valuesOf, valuesWith};
+ghost use Rattle.wire.specs.Markets.{listed};
+ghost use Rattle.wire.specs.Fields.{Sane, fieldsAt, arrayOf, sideBad, volumeBad, conditionsAt, firstBad, faultOf, endsOf, valuesOf, valuesWith};
 
 // A second has so many nanoseconds.
 const NANOS: u32 = 1000000000;
@@ -63,9 +68,10 @@ pub(crate) fn fields_at(s: &[u8], l: Layout) -> Fields
     }
 }
 
-// The first field that document 01 calls bad, in the order of the offsets.
-pub(crate) fn fault_of(l: Layout, f: Fields) -> Fault
-    ensures { λ r. ⌜ r ≡ faultOf l f ⌝ }
+// The first bad field, in the order of the offsets: those that document 01 calls bad, and the conditions that the market does not list.
+pub(crate) fn fault_of(market: Market, l: Layout, f: Fields, plain: [u8; PLAIN]) -> Fault
+    requires { ⌜ Sane l ⌝ }
+    ensures { λ r. ⌜ r ≡ faultOf market l f (arrayOf l plain) ⌝ }
 {
     if NANOS <= f.nanos {
         return Fault::At(l.form);
@@ -79,7 +85,39 @@ pub(crate) fn fault_of(l: Layout, f: Fields) -> Fault
     if side_bad(l.side < l.letter, f.side) {
         return Fault::At(l.side);
     }
+    if l.coded {
+        return first_unlisted(market, l.plain, plain);
+    }
     Fault::Nothing
+}
+
+// The first of the four conditions that the market does not list. They stand from `at` on.
+fn first_unlisted(market: Market, at: usize, plain: [u8; PLAIN]) -> Fault
+    requires { ⌜ at + 3 < 2 ^ 64 ⌝ }
+    ensures { λ r. ⌜ r ≡ firstBad (conditionsAt true at market plain) ⌝ }
+{
+    if unlisted(market, 0, plain[0]) {
+        return Fault::At(at);
+    }
+    if unlisted(market, 1, plain[1]) {
+        return Fault::At(at + 1);
+    }
+    if unlisted(market, 2, plain[2]) {
+        return Fault::At(at + 2);
+    }
+    if unlisted(market, 3, plain[3]) {
+        return Fault::At(at + 3);
+    }
+    Fault::Nothing
+}
+
+fn unlisted(market: Market, position: usize, code: u8) -> bool
+    ensures { λ r. ⌜ r ≡ not (listed market position code) ⌝ }
+{
+    if condition_listed(market, position, code) {
+        return false;
+    }
+    true
 }
 
 fn volume_bad(positive: bool, volume: u32) -> bool

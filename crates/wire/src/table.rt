@@ -26,10 +26,11 @@ pub(crate) const S: usize = 8;
 
 // Where each further field starts. All types have their fields in one order, and each field ends where the next one starts: a field that a type lacks
 // is empty. `fresh` is a replace's new order, `id` a trade or cross number, `flag` position or printable, `letter` cross type or indicator, `plain` firm, conditions or plain bytes; the
-// bytes of `gap` and `pad` are reserved. `positive` says that volume 0 is bad.
+// bytes of `gap` and `pad` are reserved. `positive` says that volume 0 is bad, `coded` that `plain` holds conditions.
 pub(crate) struct Layout {
     pub(crate) kind: Kind,
     pub(crate) positive: bool,
+    pub(crate) coded: bool,
     pub(crate) size: usize,
     pub(crate) form: usize,
     pub(crate) order: usize,
@@ -57,6 +58,7 @@ pub(crate) fn shape_of(number: u16) -> Shape
         100 => Shape::Known(Layout {
             kind: Kind::Add,
             positive: true,
+            coded: false,
             size: 39,
             form: N,
             order: 16,
@@ -74,6 +76,7 @@ pub(crate) fn shape_of(number: u16) -> Shape
         101 => Shape::Known(Layout {
             kind: Kind::Modify,
             positive: true,
+            coded: false,
             size: 35,
             form: N,
             order: 16,
@@ -91,6 +94,7 @@ pub(crate) fn shape_of(number: u16) -> Shape
         102 => Shape::Known(Layout {
             kind: Kind::Delete,
             positive: false,
+            coded: false,
             size: 25,
             form: N,
             order: 16,
@@ -108,6 +112,7 @@ pub(crate) fn shape_of(number: u16) -> Shape
         103 => Shape::Known(Layout {
             kind: Kind::Execute,
             positive: true,
+            coded: true,
             size: 42,
             form: N,
             order: 16,
@@ -125,6 +130,7 @@ pub(crate) fn shape_of(number: u16) -> Shape
         104 => Shape::Known(Layout {
             kind: Kind::Replace,
             positive: true,
+            coded: false,
             size: 42,
             form: N,
             order: 16,
@@ -142,6 +148,7 @@ pub(crate) fn shape_of(number: u16) -> Shape
         105 => Shape::Known(Layout {
             kind: Kind::Imbalance,
             positive: false,
+            coded: false,
             size: 73,
             form: S,
             order: 20,
@@ -159,6 +166,7 @@ pub(crate) fn shape_of(number: u16) -> Shape
         110 => Shape::Known(Layout {
             kind: Kind::NonDisplayed,
             positive: true,
+            coded: true,
             size: 33,
             form: N,
             order: 16,
@@ -176,6 +184,7 @@ pub(crate) fn shape_of(number: u16) -> Shape
         111 => Shape::Known(Layout {
             kind: Kind::Cross,
             positive: false,
+            coded: false,
             size: 29,
             form: N,
             order: 16,
@@ -193,6 +202,7 @@ pub(crate) fn shape_of(number: u16) -> Shape
         112 => Shape::Known(Layout {
             kind: Kind::TradeCancel,
             positive: false,
+            coded: false,
             size: 20,
             form: N,
             order: 16,
@@ -210,6 +220,7 @@ pub(crate) fn shape_of(number: u16) -> Shape
         113 => Shape::Known(Layout {
             kind: Kind::CrossCorrection,
             positive: false,
+            coded: false,
             size: 24,
             form: N,
             order: 16,
@@ -227,6 +238,7 @@ pub(crate) fn shape_of(number: u16) -> Shape
         114 => Shape::Known(Layout {
             kind: Kind::Retail,
             positive: false,
+            coded: false,
             size: 17,
             form: N,
             order: 16,
@@ -244,6 +256,7 @@ pub(crate) fn shape_of(number: u16) -> Shape
         32 => Shape::Known(Layout {
             kind: Kind::Clear,
             positive: false,
+            coded: false,
             size: 20,
             form: S,
             order: 20,
@@ -261,6 +274,7 @@ pub(crate) fn shape_of(number: u16) -> Shape
         34 => Shape::Known(Layout {
             kind: Kind::Status,
             positive: false,
+            coded: false,
             size: 46,
             form: S,
             order: 20,

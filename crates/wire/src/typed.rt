@@ -1,7 +1,9 @@
 // Typed messages and their fields: each type has its own.
 use crate::Fault;
 use crate::Head;
+use crate::Market;
 use crate::Message;
+use crate::PLAIN;
 use crate::fields::Fields;
 use crate::fields::fault_of;
 use crate::table::Kind;
@@ -219,9 +221,9 @@ pub fn index_of(m: Message) -> u32
     f.index
 }
 
-// The first bad field of a message. One that was read has none; one that was made by hand may.
-pub fn bad_field(m: Message) -> Fault
-    ensures { λ r. ⌜ faultAs r ≡ badFieldOf m ⌝ }
+// The first bad field of a message with its byte array. One that was read under the market has none; one that was made by hand may.
+pub fn bad_field(market: Market, m: Message, plain: [u8; PLAIN]) -> Fault
+    ensures { λ r. ⌜ faultAs r ≡ badFieldOf market m plain ⌝ }
 {
     let number = type_of(m);
     let f = fields_of(m);
@@ -229,5 +231,5 @@ pub fn bad_field(m: Message) -> Fault
     let Shape::Known(l) = shape else {
         return Fault::Nothing;
     };
-    fault_of(l, f)
+    fault_of(market, l, f, plain)
 }

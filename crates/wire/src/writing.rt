@@ -1,5 +1,6 @@
 // Writing a message into a lent buffer.
 use crate::Fault;
+use crate::Market;
 use crate::Message;
 use crate::PLAIN;
 use crate::Written;
@@ -24,10 +25,10 @@ ghost use Rattle.wire.specs.Fields.{Sane};
 ghost use Rattle.wire.specs.Writing.{imageOf, wrote, writeSized, writeOf};
 ghost use Rattle.wire.specs.RoundTrip.{ReadsBack};
 
-// Writes a message with its byte array to the start of out. Refused, it leaves every byte of out.
-pub fn encode(m: Message, plain: [u8; PLAIN], out: &mut [u8]) -> Written
-    ensures writes { λ r. ⌜ wrote r (now (out .exit)) ≡ writeOf m plain (now (out .entry)) ⌝ }
-    ensures reads_back { λ r. ⌜ ReadsBack m plain (wrote r (now (out .exit))) ⌝ }
+// Writes a message with its byte array to the start of out, as the market sends it. Refused, it leaves every byte of out.
+pub fn encode(market: Market, m: Message, plain: [u8; PLAIN], out: &mut [u8]) -> Written
+    ensures writes { λ r. ⌜ wrote r (now (out .exit)) ≡ writeOf market m plain (now (out .entry)) ⌝ }
+    ensures reads_back { λ r. ⌜ ReadsBack market m plain (wrote r (now (out .exit))) ⌝ }
 {
     let number = type_of(m);
     let f = fields_of(m);
@@ -35,7 +36,7 @@ pub fn encode(m: Message, plain: [u8; PLAIN], out: &mut [u8]) -> Written
     let Shape::Known(l) = shape else {
         return Written::BadType;
     };
-    let fault = fault_of(l, f);
+    let fault = fault_of(market, l, f, plain);
     match fault {
         Fault::At(n) => Written::BadField(n),
         Fault::Nothing => encode_good(out, l, number, f, plain),

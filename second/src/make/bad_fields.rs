@@ -1,4 +1,4 @@
-//! Bad values for the fields that have a rule: document 01, "Message layouts".
+//! Bad values for the fields that have a rule: document 01, "Message layouts", and request M-107.
 
 use crate::wire::{Body, Message};
 
@@ -11,6 +11,8 @@ pub enum Bad {
     /// For a position or printable byte.
     Flag(u8),
     Side(u8),
+    /// For the condition of a position, which counts from 0.
+    Condition(usize, u8),
 }
 
 /// The message with these values. A type without such a field, or without a rule for it, is left
@@ -47,6 +49,10 @@ fn spoil(message: &mut Message, bad: Bad) {
             Bad::Side(value),
             Body::Add { side, .. } | Body::Modify { side, .. } | Body::Replace { side, .. },
         ) => *side = value,
+        (
+            Bad::Condition(position, code),
+            Body::Execute { conditions, .. } | Body::Trade { conditions, .. },
+        ) => conditions[position] = code,
         _ => {}
     }
 }

@@ -9,6 +9,7 @@ use super::strays::stray;
 use crate::answer::Refusal;
 use crate::reader::Reader;
 use crate::wire::write::to_bytes;
+use crate::wire::Market;
 
 pub struct Maker {
     pub source: Source,
@@ -20,8 +21,8 @@ pub struct Maker {
 impl Maker {
     pub fn new(random: Random) -> Maker {
         Maker {
-            source: Source::new(random),
-            probe: Reader::new(),
+            source: Source::new(random, Market::Nyse),
+            probe: Reader::new(Market::Nyse),
             list: CallList::new(),
         }
     }
@@ -32,8 +33,8 @@ impl Maker {
 
     pub fn new_state(&mut self) {
         self.list.new_state();
-        self.probe = Reader::new();
-        self.source = Source::new(self.random().clone());
+        self.probe = Reader::new(Market::Nyse);
+        self.source = Source::new(self.random().clone(), Market::Nyse);
     }
 
     pub fn register(&mut self, (index, scale, name): registers::Asked) {

@@ -4,6 +4,7 @@ use super::messages::{BUY, SELL};
 use super::random::Random;
 use crate::line::LAST_SECOND;
 use crate::wire::message::NANOSECONDS_PER_SECOND;
+use crate::wire::Market;
 
 const EDGES: [u32; 8] = [
     0,
@@ -33,6 +34,8 @@ pub struct Draw {
     pub random: Random,
     /// Whether fields are mostly at their edges.
     pub edges: bool,
+    /// The market whose conditions are drawn.
+    pub market: Market,
 }
 
 impl Draw {
@@ -126,12 +129,12 @@ impl Draw {
         }
     }
 
+    /// Codes that the market lists, each position by itself.
     pub fn conditions(&mut self) -> [u8; 4] {
-        if self.random.one_in(3) {
-            self.random.array()
-        } else {
-            *b"@F I"
-        }
+        std::array::from_fn(|position| {
+            let codes: Vec<u8> = self.market.codes(position).collect();
+            self.random.pick(&codes)
+        })
     }
 
     /// A cross type or indicator.

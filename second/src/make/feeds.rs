@@ -10,7 +10,7 @@ use crate::answer::Refusal;
 use crate::book::LIVE_ORDERS;
 use crate::program::new_reader;
 use crate::reader::Reader;
-use crate::wire::{Body, Message};
+use crate::wire::{Body, Market, Message};
 
 #[derive(Clone, Copy, PartialEq, Eq, Debug)]
 pub enum FeedKind {
@@ -62,7 +62,7 @@ struct Maker {
 
 impl Maker {
     fn new(random: Random) -> Maker {
-        let mut source = Source::new(random);
+        let mut source = Source::new(random, Market::Nyse);
         for index in [ABC, 8, 0, u32::MAX, 0x0700_0000] {
             let _ = source.register(index, 4, b"ABC");
         }

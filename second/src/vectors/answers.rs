@@ -4,7 +4,7 @@
 use super::hand::{Hand, LARGEST_ROOM};
 use crate::answer::{number, offset_field};
 use crate::cursor::{hex, Cursor};
-use crate::wire::{extent, read, write, Body, Message};
+use crate::wire::{extent, read, write, Body, Market, Message};
 
 /// One line for each call; `?` and the end at a call that cannot be understood.
 pub fn answers(calls: &[u8]) -> String {
@@ -28,7 +28,10 @@ fn answer(cursor: &mut Cursor) -> Option<String> {
             let reach = extent(cursor.counted()?, usize::from(at));
             Some(format!("R,{},{}", number(&reach), reach.unwrap_or(0)))
         }
-        b'D' => Some(decoded(cursor.counted()?)),
+        b'D' => {
+            let market = Market::of_id(cursor.u8()?)?;
+            Some(decoded(market, cursor.counted()?))
+        }
         b'M' => {
             let hand = Hand::taken(cursor)?;
             let room = usize::from(cursor.u16()?);
@@ -38,8 +41,8 @@ fn answer(cursor: &mut Cursor) -> Option<String> {
     }
 }
 
-fn decoded(bytes: &[u8]) -> String {
-    let (_, message) = read(bytes, 0);
+fn decoded(market: Market, bytes: &[u8]) -> String {
+    let (_, message) = read(market, bytes, 0);
     let mut plain = [0; 53];
     if let Ok(message) = &message {
         let own = plain_bytes(message);
@@ -61,7 +64,7 @@ fn written(hand: &Hand, room: usize) -> String {
     let Some(message) = hand.message() else {
         return format!("M,3,0,{}", hex(&buffer));
     };
-    let done = write(&message, &mut buffer);
+    let done = write(hand.market, &message, &mut buffer);
     let count = done.unwrap_or(0);
     let offset = offset_field(&done);
     format!("M,{},{count},{}{offset}", number(&done), hex(&buffer))

@@ -3,12 +3,14 @@
 use crate::cursor::Cursor;
 use crate::wire::bytes::array_at;
 use crate::wire::message::*;
+use crate::wire::Market;
 
 /// The largest buffer that a call may ask for.
 pub const LARGEST_ROOM: usize = 128;
 
 #[derive(Clone, Copy)]
 pub struct Hand {
+    pub market: Market,
     pub kind: u16,
     pub seconds: u32,
     pub nanoseconds: u32,
@@ -25,6 +27,7 @@ pub struct Hand {
     pub side: u8,
     /// The cross type or indicator.
     pub letter: u8,
+    /// Its first bytes are the firm or the conditions, or it has all of the plain bytes.
     pub plain: [u8; 53],
 }
 
@@ -32,6 +35,7 @@ impl Hand {
     /// The fields of a call, after its letter and before its room.
     pub fn taken(cursor: &mut Cursor) -> Option<Hand> {
         Some(Hand {
+            market: Market::of_id(cursor.u8()?)?,
             kind: cursor.u16()?,
             seconds: cursor.u32()?,
             nanoseconds: cursor.u32()?,
@@ -51,7 +55,7 @@ impl Hand {
 
     /// The call that writes this message into that much room.
     pub fn push_call(&self, calls: &mut Vec<u8>, room: usize) {
-        calls.push(b'M');
+        calls.extend([b'M', self.market.id()]);
         calls.extend(self.kind.to_le_bytes());
         for field in [self.seconds, self.nanoseconds, self.index, self.number] {
             calls.extend(field.to_le_bytes());

@@ -2,14 +2,19 @@
 
 use super::hand::{Hand, LARGEST_ROOM};
 use super::raw::{raws, Raw};
+use crate::wire::message::{EXECUTE, TRADE};
+use crate::wire::Market;
 
-/// Every field good, with a byte of its own in every place, spare bytes too.
+/// Every field good on NYSE, with a byte of its own in every place, spare bytes too: those behind the
+/// conditions are no codes.
 pub fn distinct(kind: u16) -> Hand {
     let mut plain = [0; 53];
     for (place, byte) in plain.iter_mut().enumerate() {
         *byte = 0xC1 + place as u8;
     }
+    put_conditions(kind, *b"@FZI", &mut plain);
     Hand {
+        market: Market::Nyse,
         kind,
         seconds: 0x0403_0201,
         nanoseconds: 0x1807_0605,
@@ -27,11 +32,14 @@ pub fn distinct(kind: u16) -> Hand {
     }
 }
 
-/// This byte wherever any byte is good.
+/// This byte wherever any byte is good on NYSE.
 fn filled(kind: u16, byte: u8) -> Hand {
     let wide = u32::from_le_bytes([byte; 4]);
     let order = u64::from_le_bytes([byte; 8]);
+    let mut plain = [byte; 53];
+    put_conditions(kind, *b"@6UI", &mut plain);
     Hand {
+        market: Market::Nyse,
         kind,
         seconds: wide,
         nanoseconds: wide.min(999_999_999),
@@ -45,7 +53,14 @@ fn filled(kind: u16, byte: u8) -> Hand {
         flag: byte & 1,
         side: if byte == 0 { b'S' } else { b'B' },
         letter: byte,
-        plain: [byte; 53],
+        plain,
+    }
+}
+
+/// The conditions where the type has them.
+fn put_conditions(kind: u16, conditions: [u8; 4], plain: &mut [u8; 53]) {
+    if matches!(kind, EXECUTE | TRADE) {
+        plain[..4].copy_from_slice(&conditions);
     }
 }
 

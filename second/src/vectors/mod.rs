@@ -1,6 +1,7 @@
 //! Vectors of the message layer: calls as bytes, and the text that answers them.
 
 mod answers;
+mod condition_cases;
 mod hand;
 mod hand_cases;
 mod raw;
@@ -16,6 +17,7 @@ pub fn input() -> Vec<u8> {
     read_cases::decodes(&mut calls);
     hand_cases::writes(&mut calls);
     set_cases::sets(&mut calls);
+    condition_cases::conditions(&mut calls);
     calls.push(b'Z');
     calls
 }
@@ -32,10 +34,10 @@ mod tests {
         (100, &[4, 28, 32]),
         (101, &[4, 28, 32, 33]),
         (102, &[4]),
-        (103, &[4, 32, 36]),
+        (103, &[4, 32, 36, 38, 39, 40, 41]),
         (104, &[4, 36, 40]),
         (105, &[8]),
-        (110, &[4, 24, 28]),
+        (110, &[4, 24, 28, 29, 30, 31, 32]),
         (111, &[4]),
         (112, &[4]),
         (113, &[4]),
@@ -49,8 +51,8 @@ mod tests {
         let letter = cursor.u8()?;
         let (fixed, counts) = match letter {
             b'R' => (2, true),
-            b'D' => (0, true),
-            b'M' => (104, false),
+            b'D' => (1, true),
+            b'M' => (105, false),
             _ => (0, false),
         };
         let fields = cursor.bytes(fixed)?;
@@ -81,7 +83,7 @@ mod tests {
             let (letter, fields, bytes) = taken(&mut cursor).expect("a line has its call");
             let kind = match letter {
                 b'D' => bytes.get(2..4),
-                _ => fields.get(..2),
+                _ => fields.get(1..3),
             };
             if let [_, "4", .., offset] = line.split(',').collect::<Vec<_>>()[..] {
                 let kind = kind.map(|kind| u16_at(kind, 0)).expect("a type was read");
@@ -110,7 +112,7 @@ mod tests {
         assert!(calls.len() <= 65_536);
         let text = answers(&calls);
         let lines = text.lines().count();
-        assert!((400..=800).contains(&lines), "{lines} lines");
+        assert!((700..=1000).contains(&lines), "{lines} lines");
         assert!(text.ends_with("\n?\n"));
         assert_eq!(text.matches('?').count(), 1);
     }

@@ -14,8 +14,13 @@ pub struct Raw {
     pub volume: Option<(usize, bool)>,
     pub side: Option<usize>,
     pub flag: Option<usize>,
+    /// The first of the four conditions.
+    pub conditions: Option<usize>,
     pub reserved: Option<usize>,
 }
+
+/// The codes that NYSE lists for each of the four conditions.
+const CODES: [&[u8]; 4] = [b"@", b" FO56", b" TUZ", b" I"];
 
 /// The 13 types, in the order of document 01's table.
 pub fn raws() -> impl Iterator<Item = Raw> {
@@ -31,6 +36,7 @@ pub fn raw(kind: u16) -> Raw {
         volume: None,
         side: None,
         flag: None,
+        conditions: None,
         reserved: None,
     };
     let form_s = |size| Raw {
@@ -59,6 +65,7 @@ pub fn raw(kind: u16) -> Raw {
         103 => Raw {
             volume: Some((32, true)),
             flag: Some(36),
+            conditions: Some(38),
             reserved: Some(37),
             ..form_n(42)
         },
@@ -72,6 +79,7 @@ pub fn raw(kind: u16) -> Raw {
         110 => Raw {
             volume: Some((24, true)),
             flag: Some(28),
+            conditions: Some(29),
             ..form_n(33)
         },
         111 => Raw {
@@ -96,7 +104,7 @@ impl Raw {
         self.volume.is_some() || self.side.is_some() || self.flag.is_some()
     }
 
-    /// A good message with another byte in every place.
+    /// A good message of NYSE with another byte in every place, as far as its conditions allow it.
     pub fn distinct(&self, start: u8) -> Vec<u8> {
         let mut bytes: Vec<u8> = (0..self.size)
             .map(|place| start.wrapping_add(place as u8).max(2))
@@ -105,7 +113,7 @@ impl Raw {
         self.made_good(bytes)
     }
 
-    /// A good message with this byte wherever any byte is good.
+    /// A good message of NYSE with this byte wherever any byte is good.
     pub fn filled(&self, byte: u8) -> Vec<u8> {
         let mut bytes = vec![byte; self.size];
         if byte >= 0x3B {
@@ -125,6 +133,11 @@ impl Raw {
         }
         if let Some(flag) = self.flag {
             bytes[flag] &= 1;
+        }
+        if let Some(conditions) = self.conditions {
+            for (byte, codes) in bytes[conditions..].iter_mut().zip(CODES) {
+                *byte = codes[usize::from(*byte) % codes.len()];
+            }
         }
         bytes
     }

@@ -1,6 +1,7 @@
 //! The calls `R` and `D`: how far a message reaches, and reading one.
 
 use super::raw::{put_u16, put_u32, raw, raws, Raw};
+use crate::wire::Market;
 
 /// Type numbers outside the table; 0x0164 is 100 with a second byte.
 const UNKNOWN: [u16; 17] = [
@@ -14,8 +15,13 @@ fn push_extent(calls: &mut Vec<u8>, at: usize, bytes: &[u8]) {
     calls.extend(bytes);
 }
 
+/// On NYSE.
 pub fn push_decode(calls: &mut Vec<u8>, bytes: &[u8]) {
-    calls.push(b'D');
+    push_decode_on(Market::Nyse, calls, bytes);
+}
+
+pub fn push_decode_on(market: Market, calls: &mut Vec<u8>, bytes: &[u8]) {
+    calls.extend([b'D', market.id()]);
     calls.extend((bytes.len() as u16).to_le_bytes());
     calls.extend(bytes);
 }

@@ -1,4 +1,4 @@
-//! The calls `D` and `M` with several bad fields at once: request M-111.
+//! The calls `D` and `M` with several bad fields at once: requests M-111 and M-107.
 
 use super::hand::Hand;
 use super::hand_cases;
@@ -12,6 +12,8 @@ struct BadFields {
     volume: bool,
     flag: bool,
     side: bool,
+    /// The third condition.
+    condition: bool,
 }
 
 const BAD_NANOSECONDS: u32 = 1_000_000_000;
@@ -21,7 +23,7 @@ const BAD_BYTE: u8 = 0x7E;
 /// count as bad.
 pub fn sets(calls: &mut Vec<u8>) {
     for raw in raws() {
-        let sets = (0..16).map(BadFields::of_bits);
+        let sets = (0..32).map(BadFields::of_bits);
         for set in sets.filter(|set| set.count() >= 2 && set.is_in(&raw)) {
             push_decode(calls, &set.bytes(&raw));
             set.hand(&raw).push_call(calls, raw.size);
@@ -37,11 +39,18 @@ impl BadFields {
             volume: has(1),
             flag: has(2),
             side: has(3),
+            condition: has(4),
         }
     }
 
     fn count(&self) -> usize {
-        let each = [self.nanoseconds, self.volume, self.flag, self.side];
+        let each = [
+            self.nanoseconds,
+            self.volume,
+            self.flag,
+            self.side,
+            self.condition,
+        ];
         each.into_iter().filter(|bad| *bad).count()
     }
 
@@ -50,6 +59,7 @@ impl BadFields {
         (!self.volume || raw.volume.is_some())
             && (!self.flag || raw.flag.is_some())
             && (!self.side || raw.side.is_some())
+            && (!self.condition || raw.conditions.is_some())
     }
 
     /// The bytes of a message with these fields bad.
@@ -66,6 +76,9 @@ impl BadFields {
         }
         if let Some(side) = raw.side.filter(|_| self.side) {
             bytes[side] = BAD_BYTE;
+        }
+        if let Some(conditions) = raw.conditions.filter(|_| self.condition) {
+            bytes[conditions + 2] = BAD_BYTE;
         }
         bytes
     }
@@ -84,6 +97,9 @@ impl BadFields {
         }
         if self.side {
             hand.side = BAD_BYTE;
+        }
+        if self.condition {
+            hand.plain[2] = BAD_BYTE;
         }
         hand
     }

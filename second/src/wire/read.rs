@@ -2,6 +2,7 @@
 //! is there a header, is the size too small or past the end, then type, size and fields.
 
 use super::bytes::{array_at, u16_at, u32_at, u64_at};
+use super::conditions::Market;
 use super::message::*;
 use crate::answer::Refusal;
 
@@ -24,17 +25,17 @@ pub fn extent(stream: &[u8], at: usize) -> Result<usize, Refusal> {
     Ok(size)
 }
 
-/// Reads the message at `at`. The position handed back is that of the next message; it is `at`
+/// Reads the message of a market at `at`. The position handed back is that of the next message; it is `at`
 /// itself when no message has its extent there, and then no further message can be read.
-pub fn read(stream: &[u8], at: usize) -> (usize, Result<Message, Refusal>) {
+pub fn read(market: Market, stream: &[u8], at: usize) -> (usize, Result<Message, Refusal>) {
     match extent(stream, at) {
-        Ok(size) => (at + size, decode(&stream[at..at + size])),
+        Ok(size) => (at + size, decode(market, &stream[at..at + size])),
         Err(refusal) => (at, Err(refusal)),
     }
 }
 
 /// A message from exactly its Msg Size of bytes.
-fn decode(bytes: &[u8]) -> Result<Message, Refusal> {
+fn decode(market: Market, bytes: &[u8]) -> Result<Message, Refusal> {
     let kind = u16_at(bytes, 2);
     let size = size_of_type(kind).ok_or(Refusal::Type)?;
     if bytes.len() != size {
@@ -44,7 +45,7 @@ fn decode(bytes: &[u8]) -> Result<Message, Refusal> {
         IMBALANCE | CLEAR | STATUS => form_s(kind, bytes),
         _ => form_n(kind, bytes),
     };
-    message.check()?;
+    message.check(market)?;
     Ok(message)
 }
 

@@ -1,5 +1,7 @@
-//! The field rules, and where each checked field stands: document 01, "Message layouts".
+//! The field rules, and where each checked field stands: document 01, "Message layouts", and request
+//! M-107 for the conditions.
 
+use super::conditions::{Market, CONDITIONS};
 use super::message::{Body, Message, NANOSECONDS_PER_SECOND};
 use crate::answer::Refusal;
 
@@ -7,10 +9,10 @@ use crate::answer::Refusal;
 type BadField = Option<usize>;
 
 impl Message {
-    /// Answers 4 to a bad field. Of several the first is the one with the lowest offset, in
+    /// Answers 4 to a field that is bad on this market. Of several the first is the one with the lowest offset, in
     /// whatever order the rules stand: request M-111.
-    pub fn check(&self) -> Result<(), Refusal> {
-        let own = self.body.bad_fields().into_iter();
+    pub fn check(&self, market: Market) -> Result<(), Refusal> {
+        let own = self.body.bad_fields(market).into_iter();
         let bad = own.chain([self.bad_nanoseconds()]).flatten();
         match bad.min() {
             Some(offset) => Err(Refusal::Field { offset }),
@@ -27,7 +29,7 @@ impl Message {
 
 impl Body {
     /// The fields of the table's last column that have a rule.
-    fn bad_fields(&self) -> [BadField; 3] {
+    fn bad_fields(&self, market: Market) -> [BadField; 3] {
         match *self {
             Body::Add { volume, side, .. } => [bad_volume(28, volume), bad_side(32, side), None],
             Body::Modify {
@@ -41,14 +43,28 @@ impl Body {
                 bad_side(33, side),
             ],
             Body::Execute {
-                volume, printable, ..
-            } => [bad_volume(32, volume), bad_flag(36, printable), None],
+                volume,
+                printable,
+                conditions,
+                ..
+            } => [
+                bad_volume(32, volume),
+                bad_flag(36, printable),
+                bad_condition(38, &conditions, market),
+            ],
             Body::Replace { volume, side, .. } => {
                 [bad_volume(36, volume), bad_side(40, side), None]
             }
             Body::Trade {
-                volume, printable, ..
-            } => [bad_volume(24, volume), bad_flag(28, printable), None],
+                volume,
+                printable,
+                conditions,
+                ..
+            } => [
+                bad_volume(24, volume),
+                bad_flag(28, printable),
+                bad_condition(29, &conditions, market),
+            ],
             _ => [None; 3],
         }
     }
@@ -65,4 +81,11 @@ fn bad_flag(offset: usize, flag: u8) -> BadField {
 
 fn bad_side(offset: usize, side: u8) -> BadField {
     (side != b'B' && side != b'S').then_some(offset)
+}
+
+/// The first bad one of the conditions that start at this offset.
+fn bad_condition(offset: usize, conditions: &[u8; CONDITIONS], market: Market) -> BadField {
+    market
+        .unlisted(conditions)
+        .map(|position| offset + position)
 }

@@ -1,15 +1,16 @@
 //! From a message to bytes: the fields one after the other, reserved bytes as zero.
 //! A bad field (4) is found before too little room (15), and a refusal writes nothing.
 
+use super::conditions::Market;
 use super::message::{Body, Message};
 use crate::answer::Refusal;
 
 /// The longest message, a 105.
 const LONGEST: usize = 73;
 
-/// Writes the message at the start of `out` and hands back how many bytes it took.
-pub fn write(message: &Message, out: &mut [u8]) -> Result<usize, Refusal> {
-    message.check()?;
+/// Writes the message of a market at the start of `out` and hands back how many bytes it took.
+pub fn write(market: Market, message: &Message, out: &mut [u8]) -> Result<usize, Refusal> {
+    message.check(market)?;
     let pen = encode(message);
     let bytes = &pen.bytes[..pen.count];
     out.get_mut(..pen.count)

@@ -9,7 +9,7 @@ use crate::answer::Refusal;
 use crate::book::{Order, Side, LIVE_ORDERS};
 use crate::line::line_text;
 use crate::reader::Reader;
-use crate::wire::{Body, Message};
+use crate::wire::{Body, Market, Message};
 
 #[derive(Clone)]
 pub struct Source {
@@ -23,14 +23,15 @@ pub struct Source {
 }
 
 impl Source {
-    /// A source with no symbol yet.
-    pub fn new(random: Random) -> Source {
+    /// A source of that market's messages, with no symbol yet.
+    pub fn new(random: Random, market: Market) -> Source {
         Source {
             draw: Draw {
                 random,
                 edges: false,
+                market,
             },
-            reader: Reader::new(),
+            reader: Reader::new(market),
             indices: Vec::new(),
             depth: 8,
             clears: 150,

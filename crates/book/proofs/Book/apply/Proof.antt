@@ -1,12 +1,13 @@
 -- What reaches from the position decides: a stop, or a step over the bytes that it reaches.
 use mathlib.Core.Path.{_≡_, sym, ap, _∙_}
-use Prim.Native.Nat.{ℕ, _+_, _≤_}
+use Prim.Native.Nat.{_+_, _≤_}
 use native.Mathlib.Nat.{add-sub-cancel-left}
 use native.Mathlib.Omega.{arith}
 use denote.Ref.{now}
 use lib.ListN.{length, take, drop}
 use Rattle.wire.specs.Outcome.{done}
 use Rattle.wire.specs.Reading.{reachedAs, reachOf, readOf}
+use Rattle.book.proofs.Views.{view-market}
 use Rattle.book.proofs.Walking.{move-stops, move-within, move-goes}
 use borrow.Author.Needs.{needs}
 use Rattle.book.proofs.Book.apply.Statement.{statement}
@@ -58,9 +59,11 @@ returns-2 c = move-stops _ _ _ 2 (sym (c .before .before .reach-at .ensures) ∙
 returns-3 : tie.Need-returns-3
 returns-3 c =
     let k = c .before .before .before .before in
-    let s = now (k .before .before .before .before .before .args .s) in
-    move-goes (k .before .before .before .before .before .args .self) s (k .before .before .before .before .before .args .at) (k .before .reach .given .0 .0) (reaches k) (c .before .before .decode .result) _
-    (c .before .before .decode .ensures .0 ∙ ap (λ (n : ℕ). readOf (take n (drop (k .before .before .before .before .before .args .at) s))) (add-sub-cancel-left (k .before .before .before .before .before .args .at) (k .before .reach .given .0 .0)))
+    let a = k .before .before .before .before .before .args in
+    let s = now (a .s) in
+    let n = k .before .reach .given .0 .0 in
+    move-goes (a .self) s (a .at) n (reaches k) (c .before .before .decode .result) _
+    (c .before .before .decode .ensures .0 ∙ (λ i. readOf (sym (view-market (a .self)) i) (take (add-sub-cancel-left (a .at) n i) (drop (a .at) s))))
     (c .before .step .ensures .0)
     (c .before .step .ensures .1)
 

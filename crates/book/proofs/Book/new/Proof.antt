@@ -14,7 +14,7 @@ new-requires-3 : tie.Need-new-requires-3
 new-requires-3 c κs = search needs
 
 returns : tie.Need-returns
-returns c = rw (c .before .before .new .ensures, c .before .new2 .ensures, c .new3 .ensures) fresh
+returns c = rw (c .before .before .new .ensures, c .before .new2 .ensures, c .new3 .ensures) (fresh _)
 
 pub new-spec : {M : Type 1} → statement M
 new-spec = tie.close (tie.spec new-requires new-requires-2 new-requires-3 returns)

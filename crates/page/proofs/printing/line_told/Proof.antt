@@ -17,7 +17,7 @@ type-is k x e = ap hasNoLine (sym (k .before .type-of .ensures)) ∙ sym (k .has
 has-line : (k : tie.Else1) → hasNoLine (typeOf (k .before .before .before .before .args .m)) ≡ false
 has-line k = type-is (k .before) _ (k .if1 .left)
 
-fault-is : (k : tie.After-bad-field) (x : Fault) → k .bad-field .result ≡ x → faultIn (k .before .before .before .before .before .args .m) ≡ x
+fault-is : (k : tie.After-bad-field) (x : Fault) → k .bad-field .result ≡ x → faultIn (k .before .before .before .before .before .args .market) (k .before .before .before .before .before .args .m) (k .before .before .before .before .before .args .plain) ≡ x
 fault-is k x e = sym (one-fault _ _ (k .bad-field .ensures)) ∙ e
 
 type-of-requires : tie.Need-type-of-requires
@@ -29,7 +29,7 @@ has-no-line-requires c κs = search needs
 returns : tie.Need-returns
 returns c =
     let a = c .before .before .before .before .args in
-    sym (line-no-type (a .s) (a .m) (a .plain) (a .sequence) (a .second) (now (a .out)) (type-is (c .before) _ (c .if1 .taken)))
+    sym (line-no-type (a .market) (a .s) (a .m) (a .plain) (a .sequence) (a .second) (now (a .out)) (type-is (c .before) _ (c .if1 .taken)))
 
 bad-field-requires : tie.Need-bad-field-requires
 bad-field-requires c κs = search needs
@@ -47,7 +47,7 @@ returns-2 : tie.Need-returns-2
 returns-2 c =
     let k = c .before .before .before in
     let a = k .before .before .before .before .before .args in
-    sym (line-bad-field (a .s) (a .m) (a .plain) (a .sequence) (a .second) (now (a .out)) (has-line (k .before)) _ (fault-is k _ (c .before .fault .given .1)))
+    sym (line-bad-field (a .market) (a .s) (a .m) (a .plain) (a .sequence) (a .second) (now (a .out)) (has-line (k .before)) _ (fault-is k _ (c .before .fault .given .1)))
 
 same-length : tie.Need-same-length
 same-length c = search needs
@@ -57,7 +57,7 @@ returns-3 c =
     let k = c .before .before .before .before .before .before in
     let a = k .before .before .before .before .before .args in
     c .before .before .line-good .ensures
-    ∙ sym (line-fields-good (a .s) (a .m) (a .plain) (a .sequence) (a .second) (now (a .out)) (has-line (k .before)) (fault-is k _ (c .before .before .before .before .enum-told .given .1)))
+    ∙ sym (line-fields-good (a .market) (a .s) (a .m) (a .plain) (a .sequence) (a .second) (now (a .out)) (has-line (k .before)) (fault-is k _ (c .before .before .before .before .enum-told .given .1)))
 
 pub line-told-spec : {M : Type 1} → statement M
 line-told-spec =

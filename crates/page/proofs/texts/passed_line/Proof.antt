@@ -22,11 +22,11 @@ use Rattle.page.proofs.texts.passed_line.Tie as tie
 
 -- of a done message: what was read, then what is printed of it
 done-is : (k : tie.After-decode) → k .before .before .before .args .answer ≡ 0 →
-    passedText (record { view = view (k .before .before .before .args .book); answer = k .before .before .before .args .answer }) (now (k .before .before .before .args .message)) (k .before .before .before .args .place) (k .before .before .before .args .second)
+    passedText (k .before .before .before .args .market) (record { view = view (k .before .before .before .args .book); answer = k .before .before .before .args .answer }) (now (k .before .before .before .args .message)) (k .before .before .before .args .place) (k .before .before .before .args .second)
     ≡ doneText (view (k .before .before .before .args .book)) (answeredAs (k .decode .result .answer) .outcome) (k .decode .result .plain) (k .before .before .before .args .place) (k .before .before .before .args .second)
 done-is k e =
     let a = k .before .before .before .args in
-    passed-done (view (a .book)) (now (a .message)) (a .answer) (a .place) (a .second) e
+    passed-done (a .market) (view (a .book)) (now (a .message)) (a .answer) (a .place) (a .second) e
     ∙ ap (λ (d : Read). doneText (view (a .book)) (d .outcome) (d .plain) (a .place) (a .second)) (sym (k .decode .ensures .0))
 
 message-is : (k : tie.After-decode) {m : Message} → k .decode .result .answer ≡ Answer.Message m →
@@ -48,7 +48,7 @@ returns c =
     let a = c .before .before .before .args in
     c .refusal-line .ensures
     ∙ ap (λ (o : ℕ). rendered (refusal (a .answer) o (a .place))) (c .before .before .before .pre)
-    ∙ sym (passed-refused (view (a .book)) (now (a .message)) (a .answer) (a .place) (a .second) (c .before .if1 .taken))
+    ∙ sym (passed-refused (a .market) (view (a .book)) (now (a .message)) (a .answer) (a .place) (a .second) (c .before .if1 .taken))
 
 decode-requires : tie.Need-decode-requires
 decode-requires c κs = search needs

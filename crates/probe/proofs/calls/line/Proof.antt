@@ -6,6 +6,9 @@ use borrow.Author.Needs.{needs}
 use Rattle.probe.proofs.calls.line.Statement.{statement}
 use Rattle.probe.proofs.calls.line.Tie as tie
 
+market-requires : tie.Need-market-requires
+market-requires c κs = search needs
+
 rest-requires : tie.Need-rest-requires
 rest-requires c κs = search needs
 
@@ -61,6 +64,7 @@ pub line-spec : {M : Type 1} → statement M
 line-spec =
     tie.close
     (tie.spec
+    market-requires
     rest-requires
     decode-requires
     enum-known-a

@@ -16,10 +16,11 @@ reach-is : (k : tie.After-first-reach) (x : Reach) → k .first-reach .result �
 reach-is k x e = sym (k .first-reach .ensures) ∙ ap reachedAs e
 
 -- what is read writes back, since the elements of a slice are bytes
-both : (k : tie.After-first-reach) {r : Read} → r ≡ readOf (now (k .before .before .args .s)) → (r ≡ readOf (now (k .before .before .args .s))) × WritesBack (now (k .before .before .args .s)) r
+both : (k : tie.After-first-reach) {r : Read} → r ≡ readOf (k .before .before .args .market) (now (k .before .before .args .s)) → (r ≡ readOf (k .before .before .args .market) (now (k .before .before .args .s))) × WritesBack (k .before .before .args .market) (now (k .before .before .args .s)) r
 both k e =
     let s = now (k .before .before .args .s) in
-    (e, subst (WritesBack s) (sym e) (write-what-was-read s (λ i. omega (arith, k .before .shared-slice-known .given i))))
+    let market = k .before .before .args .market in
+    (e, subst (WritesBack market s) (sym e) (write-what-was-read market s (λ i. omega (arith, k .before .shared-slice-known .given i))))
 
 first-reach-requires : tie.Need-first-reach-requires
 first-reach-requires c κs = search needs
@@ -43,13 +44,13 @@ decode-typed-requires : tie.Need-decode-typed-requires
 decode-typed-requires c κs = let r = reached (now (c .before .before .before .before .before .args .s)) (c .before .found .given .0 .0) (reach-is (c .before .before .before) _ (c .before .found .given .1)) in (r .least, r .there)
 
 returns : tie.Need-returns
-returns c = both (c .before .before .before) (ap decodedAs (c .refused .ensures) ∙ sym (read-unreached (now (c .before .before .before .before .before .args .s)) 1 (reach-is (c .before .before .before) _ (c .before .enum-told .given .1))))
+returns c = both (c .before .before .before) (ap decodedAs (c .refused .ensures) ∙ sym (read-unreached (c .before .before .before .before .before .args .market) (now (c .before .before .before .before .before .args .s)) 1 (reach-is (c .before .before .before) _ (c .before .enum-told .given .1))))
 
 returns-2 : tie.Need-returns-2
-returns-2 c = both (c .before .before .before) (ap decodedAs (c .refused2 .ensures) ∙ sym (read-unreached (now (c .before .before .before .before .before .args .s)) 2 (reach-is (c .before .before .before) _ (c .before .enum-told2 .given .1))))
+returns-2 c = both (c .before .before .before) (ap decodedAs (c .refused2 .ensures) ∙ sym (read-unreached (c .before .before .before .before .before .args .market) (now (c .before .before .before .before .before .args .s)) 2 (reach-is (c .before .before .before) _ (c .before .enum-told2 .given .1))))
 
 returns-3 : tie.Need-returns-3
-returns-3 c = both (c .before .before .before .before) (c .decode-typed .ensures ∙ sym (read-reached (now (c .before .before .before .before .before .before .args .s)) (c .before .before .found .given .0 .0) (reach-is (c .before .before .before .before) _ (c .before .before .found .given .1))))
+returns-3 c = both (c .before .before .before .before) (c .decode-typed .ensures ∙ sym (read-reached (c .before .before .before .before .before .before .args .market) (now (c .before .before .before .before .before .before .args .s)) (c .before .before .found .given .0 .0) (reach-is (c .before .before .before .before) _ (c .before .before .found .given .1))))
 
 pub decode-spec : {M : Type 1} → statement M
 decode-spec =

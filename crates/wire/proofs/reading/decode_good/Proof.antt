@@ -1,17 +1,14 @@
--- What the calls hand back is the rule's record.
+-- What the call hands back is the rule's record.
 use Rattle.wire.specs.Outcome.{done}
 use borrow.Author.Needs.{needs}
 use Rattle.wire.proofs.reading.decode_good.Statement.{statement}
 use Rattle.wire.proofs.reading.decode_good.Tie as tie
 
-plain-at-requires : tie.Need-plain-at-requires
-plain-at-requires c κs = search needs
-
 message-of-requires : tie.Need-message-of-requires
 message-of-requires c κs = search needs
 
 returns : tie.Need-returns
-returns c = λ i. record { outcome = done (c .message-of .ensures i); offset = 0; plain = c .before .plain-at .ensures i }
+returns c = λ i. record { outcome = done (c .message-of .ensures i); offset = 0; plain = c .before .args .plain }
 
 pub decode-good-spec : {M : Type 1} → statement M
-decode-good-spec = tie.close (tie.spec plain-at-requires message-of-requires returns)
+decode-good-spec = tie.close (tie.spec message-of-requires returns)

@@ -34,21 +34,21 @@ refused-requires c κs = search needs
 
 returns : tie.Need-returns
 returns c = let a = c .before .before .before .before .before .before .args in
-    ap decodedAs (c .refused .ensures) ∙ sym (read-unknown (now (a .s)) (a .size) (shape-is (c .before .before .before) _ (c .before .enum-told .given .1)))
+    ap decodedAs (c .refused .ensures) ∙ sym (read-unknown (a .market) (now (a .s)) (a .size) (shape-is (c .before .before .before) _ (c .before .enum-told .given .1)))
 
 refused-requires-2 : tie.Need-refused-requires-2
 refused-requires-2 c κs = search needs
 
 returns-2 : tie.Need-returns-2
 returns-2 c = let a = c .before .before .before .before .before .before .before .before .args in
-    ap decodedAs (c .refused2 .ensures) ∙ sym (read-other-size (now (a .s)) (a .size) (c .before .before .before .shape .given .0 .0) (known-is (c .before .before .before)) (λ e. omega arith))
+    ap decodedAs (c .refused2 .ensures) ∙ sym (read-other-size (a .market) (now (a .s)) (a .size) (c .before .before .before .shape .given .0 .0) (known-is (c .before .before .before)) (λ e. omega arith))
 
 decode-body-requires : tie.Need-decode-body-requires
 decode-body-requires c κs = (layout-sane _ _ (known-is (c .before .before)), omega arith)
 
 returns-3 : tie.Need-returns-3
 returns-3 c = let a = c .before .before .before .before .before .before .before .before .args in
-    c .decode-body .ensures ∙ sym (read-size (now (a .s)) (a .size) (c .before .before .before .shape .given .0 .0) (known-is (c .before .before .before)) (omega arith))
+    c .decode-body .ensures ∙ sym (read-size (a .market) (now (a .s)) (a .size) (c .before .before .before .shape .given .0 .0) (known-is (c .before .before .before)) (omega arith))
 
 pub decode-typed-spec : {M : Type 1} → statement M
 decode-typed-spec =

@@ -1,0 +1,88 @@
+-- The markets with their numbers, and source 001's lists of conditions: the values of a 103 and of a 110, position by position, each with the markets that it holds for.
+use Prim.Native.Nat.{ℕ}
+use mathlib.Core.Bool.{Bool, true, false, cond}
+use mathlib.Core.List.{List, [], _∷_}
+use lib.Dec.{eqb}
+use lib.ListN.{getD}
+use Rattle.wire.specs.declared.markets.Market.{Market}
+use Rattle.wire.specs.declared.markets.Market.the-variants.{Nyse, Arca, American, National, Texas}
+use Rattle.wire.specs.declared.markets.Named.{Named}
+
+-- source 002's Market ID
+abbrev pub marketNumber : Market → ℕ
+marketNumber Nyse = 1
+marketNumber Arca = 3
+marketNumber American = 9
+marketNumber National = 10
+marketNumber Texas = 11
+
+-- the market of a number, among some
+abbrev pub numbered : ℕ → List Market → Named
+numbered n [] = Named.Unknown
+numbered n (m ∷ ms) = cond (eqb n (marketNumber m)) (Named.Market m) (numbered n ms)
+
+unfoldable pub namedOf : ℕ → Named
+namedOf n = numbered n (Nyse ∷ Arca ∷ American ∷ National ∷ Texas ∷ [])
+
+-- ---- the lists
+
+-- a code, and the markets that source 001 lists it for
+pub record Code : Type 0 where
+  pub code : ℕ
+  pub markets : Market → Bool
+
+abbrev pub onTexas : Market → Bool
+onTexas Nyse = false
+onTexas Arca = false
+onTexas American = false
+onTexas National = false
+onTexas Texas = true
+
+abbrev pub onArcaAmericanNyse : Market → Bool
+onArcaAmericanNyse Nyse = true
+onArcaAmericanNyse Arca = true
+onArcaAmericanNyse American = true
+onArcaAmericanNyse National = false
+onArcaAmericanNyse Texas = false
+
+-- listed with no market named, with "Arca, American and NYSE only", and with "Texas only"
+abbrev pub everywhere : ℕ → Code
+everywhere c = record { code = c; markets = λ m. true }
+
+abbrev pub arcaAmericanNyse : ℕ → Code
+arcaAmericanNyse c = record { code = c; markets = onArcaAmericanNyse }
+
+abbrev pub texas : ℕ → Code
+texas c = record { code = c; markets = onTexas }
+
+-- settlement: `@` regular sale, `C` cash
+abbrev pub settlement : List Code
+settlement = everywhere 64 ∷ texas 67 ∷ []
+
+-- trade through exemption: a space, `F` intermarket sweep, `O` opening, `5` reopening, `6` closing, `7` qualified contingent
+abbrev pub exemption : List Code
+exemption = everywhere 32 ∷ everywhere 70 ∷ arcaAmericanNyse 79 ∷ arcaAmericanNyse 53 ∷ arcaAmericanNyse 54 ∷ texas 55 ∷ []
+
+-- extended hours: a space, `T` extended hours, `U` extended hours sold, `Z` sold
+abbrev pub hours : List Code
+hours = everywhere 32 ∷ everywhere 84 ∷ everywhere 85 ∷ everywhere 90 ∷ []
+
+-- required detail: a space, `I` odd lot, `V` contingent
+abbrev pub detail : List Code
+detail = everywhere 32 ∷ everywhere 73 ∷ texas 86 ∷ []
+
+-- the codes of a list that a market has
+abbrev pub codesOf : Market → List Code → List ℕ
+codesOf m [] = []
+codesOf m (k ∷ ks) = cond (k .markets m) (k .code ∷ codesOf m ks) (codesOf m ks)
+
+abbrev pub member : ℕ → List ℕ → Bool
+member c [] = false
+member c (x ∷ xs) = cond (eqb c x) true (member c xs)
+
+-- does the market list the code at this position? The first one is 0, and beyond the fourth nothing is listed.
+abbrev pub lists : List (List Code)
+lists = settlement ∷ exemption ∷ hours ∷ detail ∷ []
+
+unfoldable pub listed : Market → ℕ → ℕ → Bool
+listed m position c = member c (codesOf m (getD lists position []))
