@@ -1,7 +1,7 @@
 //! Calls of the probe laid end to end.
 
 use super::messages::feed;
-use crate::wire::Message;
+use crate::wire::{Market, Message};
 
 #[derive(Clone, Default)]
 pub struct CallList {
@@ -44,8 +44,15 @@ impl CallList {
         self.bytes.extend(bytes);
     }
 
+    /// A new state of NYSE.
     pub fn new_state(&mut self) {
         self.letter(b'N');
+    }
+
+    /// A new state of that market.
+    pub fn new_market(&mut self, market: Market) {
+        self.letter(b'M');
+        self.bytes.push(market.id());
     }
 
     pub fn register(&mut self, index: u32, scale: u8, name: &[u8]) {

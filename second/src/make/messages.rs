@@ -9,7 +9,7 @@ pub const ABC: u32 = 7;
 pub const BUY: u8 = b'B';
 pub const SELL: u8 = b'S';
 
-/// Regular conditions of a trade.
+/// Regular conditions of a trade, which every market lists.
 const REGULAR: [u8; 4] = *b"@   ";
 
 /// Messages laid end to end.
@@ -157,6 +157,20 @@ pub fn clear(next: u32) -> Message {
 pub fn status(number: u32) -> Message {
     let plain = std::array::from_fn(|place| b'a' + place as u8);
     message(number, Body::Status { seconds: 1, plain })
+}
+
+/// The same 103 or 110 with other conditions.
+pub fn under(conditions: [u8; 4], mut message: Message) -> Message {
+    if let Body::Execute {
+        conditions: own, ..
+    }
+    | Body::Trade {
+        conditions: own, ..
+    } = &mut message.body
+    {
+        *own = conditions;
+    }
+    message
 }
 
 /// The same message for another symbol.

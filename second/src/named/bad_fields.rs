@@ -39,19 +39,8 @@ const WITH_BOTH: [&[Bad]; 11] = [
 ];
 
 pub fn add_to(cases: &mut Cases) {
-    for (name, messages) in [
-        ("each-bad-field-alone", alone()),
-        ("several-bad-fields", several()),
-    ] {
-        cases.feed(name, &messages);
-        cases.calls_on_abc(name, |calls| {
-            for message in &messages {
-                let bytes = feed(&[*message]);
-                calls.read(0, &bytes);
-                calls.step(0, &bytes);
-            }
-        });
-    }
+    cases.read_and_applied("each-bad-field-alone", &alone());
+    cases.read_and_applied("several-bad-fields", &several());
     outputs(cases);
     other_answers(cases);
     effects(cases);

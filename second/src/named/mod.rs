@@ -3,9 +3,12 @@
 
 mod bad_fields;
 mod book;
+mod codes;
+mod conditions;
 mod day;
 mod fields;
 mod listed;
+mod markets;
 mod page;
 mod printout;
 mod record;
@@ -33,6 +36,9 @@ impl Cases {
         printout::add_to(&mut cases);
         fields::add_to(&mut cases);
         bad_fields::add_to(&mut cases);
+        conditions::add_to(&mut cases);
+        codes::add_to(&mut cases);
+        markets::add_to(&mut cases);
         book::add_to(&mut cases);
         record::add_to(&mut cases);
         registering::add_to(&mut cases);
@@ -68,6 +74,18 @@ impl Cases {
         make(&mut calls);
         self.files
             .push((format!("{name}.calls"), calls.into_bytes()));
+    }
+
+    /// The messages as a feed, and each of them read and applied.
+    fn read_and_applied(&mut self, name: &str, messages: &[Message]) {
+        self.feed(name, messages);
+        self.calls_on_abc(name, |calls| {
+            for message in messages {
+                let bytes = feed(&[*message]);
+                calls.read(0, &bytes);
+                calls.step(0, &bytes);
+            }
+        });
     }
 
     /// Calls that start with ABC registered and end with its quote and volume.
