@@ -1,7 +1,9 @@
 //! A list of calls in the making, with what the probe holds after it.
 
+use super::bad_draws::{with_bad_conditions, with_bad_fields};
 use super::call_list::CallList;
-use super::damage::{damaged, derailed, noise, sent, with_bad_fields};
+use super::damage::{damaged, derailed, sent};
+use super::noise::noise;
 use super::random::Random;
 use super::registers;
 use super::source::Source;
@@ -16,14 +18,18 @@ pub struct Maker {
     /// What the probe holds after the calls so far.
     pub probe: Reader,
     pub list: CallList,
+    /// Whether a new state is mostly one of any market; of NYSE otherwise.
+    pub any_market: bool,
 }
 
 impl Maker {
+    /// Starts as the probe does, in a new state of NYSE.
     pub fn new(random: Random) -> Maker {
         Maker {
             source: Source::new(random, Market::Nyse),
             probe: Reader::new(Market::Nyse),
             list: CallList::new(),
+            any_market: false,
         }
     }
 
@@ -32,9 +38,16 @@ impl Maker {
     }
 
     pub fn new_state(&mut self) {
-        self.list.new_state();
-        self.probe = Reader::new(Market::Nyse);
-        self.source = Source::new(self.random().clone(), Market::Nyse);
+        let market = if self.any_market && !self.random().one_in(6) {
+            let market = self.random().pick(&Market::ALL);
+            self.list.new_market(market);
+            market
+        } else {
+            self.list.new_state();
+            Market::Nyse
+        };
+        self.probe = Reader::new(market);
+        self.source = Source::new(self.random().clone(), market);
     }
 
     pub fn register(&mut self, (index, scale, name): registers::Asked) {
@@ -72,16 +85,20 @@ impl Maker {
     /// A message that most likely is refused. The source does not know of it.
     pub fn faulty_message(&mut self) -> Vec<u8> {
         let index = self.source.index();
+        if self.random().one_in(8) {
+            let message = self.source.trade_sample(index);
+            return to_bytes(&with_bad_conditions(message, &mut self.source.draw));
+        }
         let message = match self.random().below(3) {
             0 => stray(&mut self.source, index),
             _ => self.source.sample(index),
         };
-        let random = &mut self.source.draw.random;
-        match random.below(6) {
-            0 | 1 => damaged(&message, random),
-            2 => derailed(&message, random),
-            3 => noise(random),
-            4 => to_bytes(&with_bad_fields(message, random)),
+        let draw = &mut self.source.draw;
+        match draw.random.below(6) {
+            0 | 1 => damaged(&message, draw),
+            2 => derailed(&message, &mut draw.random),
+            3 => noise(draw),
+            4 => to_bytes(&with_bad_fields(message, draw)),
             _ => to_bytes(&message),
         }
     }

@@ -30,6 +30,10 @@ pub const CALL_KINDS: [(&str, CallKind); 5] = [
 /// A file of `count` calls, or fewer where they would make it too long for the probe.
 pub fn calls(seed: u64, kind: CallKind, count: usize) -> Vec<u8> {
     let mut maker = Maker::new(Random::new(seed, &format!("calls {kind:?}")));
+    maker.any_market = kind == CallKind::Mixed;
+    if maker.any_market {
+        maker.new_state();
+    }
     begin(&mut maker, kind);
     let mut now = kind;
     while maker.list.count() < count && maker.list.len() < LARGEST_FILE {
@@ -41,11 +45,13 @@ pub fn calls(seed: u64, kind: CallKind, count: usize) -> Vec<u8> {
     maker.list.keep(count, LARGEST_FILE);
     if matches!(kind, CallKind::Faults | CallKind::Mixed) && maker.random().one_in(3) {
         maker.list.keep(count.saturating_sub(1), LARGEST_FILE - 16);
-        let last: [&[u8]; 4] = [
+        let last: [&[u8]; 6] = [
             b"Z",
             b"Q\x07\x00",
             b"W\x01\x00\x00\x00\x01\x01\x00\x00",
             b"X",
+            b"M",
+            b"M\x02",
         ];
         let last = maker.random().pick(&last);
         maker.list.raw(last);
@@ -80,7 +86,8 @@ fn begin_again(maker: &mut Maker, kind: CallKind) {
 fn push(maker: &mut Maker, kind: CallKind) {
     maker.source.draw.edges = kind == CallKind::Edges;
     maker.source.clears = if kind == CallKind::Edges { 25 } else { 120 };
-    if maker.source.indices().is_empty() || maker.random().one_in(400) {
+    let states = if maker.any_market { 60 } else { 400 };
+    if maker.source.indices().is_empty() || maker.random().one_in(states) {
         return begin_again(maker, kind);
     }
     if maker.clear_stale() {

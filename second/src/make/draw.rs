@@ -29,6 +29,9 @@ const ORDER_EDGES: [u64; 8] = [
     u64::MAX,
 ];
 
+/// Conditions of other positions, other markets and other feeds, and bytes that look like them.
+const NEAR: &[u8] = b"@CFO567TUZIVl1R49MQPW \0";
+
 #[derive(Clone)]
 pub struct Draw {
     pub random: Random,
@@ -135,6 +138,17 @@ impl Draw {
             let codes: Vec<u8> = self.market.codes(position).collect();
             self.random.pick(&codes)
         })
+    }
+
+    /// A code that the market does not list for that position.
+    pub fn bad_code(&mut self, position: usize) -> u8 {
+        loop {
+            let (any, near) = (self.random.byte(), self.random.pick(NEAR));
+            let code = self.random.pick(&[any, near, near]);
+            if !self.market.lists(position, code) {
+                return code;
+            }
+        }
     }
 
     /// A cross type or indicator.

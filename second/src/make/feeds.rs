@@ -1,8 +1,10 @@
 //! Feeds of every kind, from a seed.
 
-use super::damage::{damaged, derailed, noise, sent};
+use super::bad_draws::with_bad_conditions;
+use super::damage::{damaged, derailed, sent};
 use super::ends;
 use super::messages::ABC;
+use super::noise::noise;
 use super::random::Random;
 use super::source::Source;
 use super::strays::stray;
@@ -10,6 +12,7 @@ use crate::answer::Refusal;
 use crate::book::LIVE_ORDERS;
 use crate::program::new_reader;
 use crate::reader::Reader;
+use crate::wire::write::to_bytes;
 use crate::wire::{Body, Market, Message};
 
 #[derive(Clone, Copy, PartialEq, Eq, Debug)]
@@ -36,7 +39,7 @@ pub const FEED_KINDS: [(&str, FeedKind); 8] = [
     ("mixed", FeedKind::Mixed),
 ];
 
-/// A feed of `count` messages. Only index 7 is registered where the program reads it.
+/// A feed of `count` messages of NYSE, the program's market. Only index 7 is registered where the program reads it.
 pub fn feed(seed: u64, kind: FeedKind, count: usize) -> Vec<u8> {
     let mut maker = Maker::new(Random::new(seed, &format!("feed {kind:?}")));
     let mut now = kind;
@@ -94,7 +97,7 @@ impl Maker {
         }
         let message = match kind {
             FeedKind::Damaged => return self.maybe_damaged(),
-            FeedKind::Noise if !self.random().one_in(8) => return noise(self.random()),
+            FeedKind::Noise if !self.random().one_in(8) => return noise(&mut self.source.draw),
             FeedKind::Cut if self.random().one_in(8) => {
                 return ends::filler(&mut self.source.draw.random, self.bytes.len())
             }
@@ -142,12 +145,18 @@ impl Maker {
     }
 
     fn maybe_damaged(&mut self) -> Vec<u8> {
+        if self.random().one_in(40) {
+            let index = self.source.index();
+            let message = self.source.trade_sample(index);
+            self.source.apply(message);
+            return to_bytes(&with_bad_conditions(message, &mut self.source.draw));
+        }
         let message = self.source.next();
-        let random = &mut self.source.draw.random;
-        match random.below(600) {
-            0 => derailed(&message, random),
-            1..=50 => damaged(&message, random),
-            _ => sent(&message, random),
+        let draw = &mut self.source.draw;
+        match draw.random.below(600) {
+            0 => derailed(&message, &mut draw.random),
+            1..=50 => damaged(&message, draw),
+            _ => sent(&message, &mut draw.random),
         }
     }
 }

@@ -1,5 +1,6 @@
 //! Makers of test input: messages, feeds, lists of calls.
 
+mod bad_draws;
 pub mod bad_fields;
 pub(crate) mod call_list;
 mod call_maker;
@@ -10,6 +11,7 @@ mod ends;
 pub mod feeds;
 mod fills;
 pub mod messages;
+mod noise;
 mod outputs;
 pub mod random;
 mod registers;

@@ -1,7 +1,8 @@
 //! Calls that write a message or a line, into buffers with room and without.
 
+use super::bad_draws::{bad_nanoseconds, with_bad_conditions};
 use super::call_maker::Maker;
-use super::damage::{bad_nanoseconds, damaged, sent};
+use super::damage::{damaged, sent};
 use crate::line::LAST_SECOND;
 use crate::probe::LARGEST_ROOM;
 use crate::program::SECOND_OF_DAY;
@@ -11,10 +12,10 @@ use crate::wire::Message;
 
 pub fn push_write(maker: &mut Maker, faults: bool) {
     let index = maker.source.index();
-    let message = if maker.random().one_in(8) {
-        maker.source.clear_sample(index)
-    } else {
-        maker.source.sample(index)
+    let message = match maker.random().below(8) {
+        0 => maker.source.clear_sample(index),
+        1 => maker.source.trade_sample(index),
+        _ => maker.source.sample(index),
     };
     let nanoseconds = nanoseconds(maker, faults);
     let room = room(maker, to_bytes(&message).len(), faults);
@@ -97,7 +98,8 @@ fn maybe_broken(maker: &mut Maker, message: &Message, faults: bool) -> Vec<u8> {
             bytes.truncate(length);
             bytes
         }
-        1 | 2 if faults => damaged(message, maker.random()),
+        1 | 2 if faults => damaged(message, &mut maker.source.draw),
+        3 | 4 if faults => to_bytes(&with_bad_conditions(*message, &mut maker.source.draw)),
         _ => bytes,
     }
 }

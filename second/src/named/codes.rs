@@ -86,15 +86,18 @@ fn with_free(byte: u8) -> [Message; 5] {
     messages
 }
 
-/// A 103 and a 110 with each code that the market lists, numbered from 2 on.
+/// A 103 and a 110 with the first code of each position, with the second and so on, numbered from 2
+/// on. A position with fewer codes than another begins again.
 fn applied(market: Market) -> Vec<[Message; 2]> {
-    let codes = (0..4).flat_map(|position| {
-        let codes = market.codes(position);
-        codes.map(move |code| regular_but(position, code))
-    });
-    let numbered = codes.zip((2..).step_by(2));
+    let codes: [Vec<u8>; 4] = std::array::from_fn(|position| market.codes(position).collect());
+    let most = codes.iter().map(Vec::len).max().unwrap_or(0);
+    let numbered = (0..most).zip((2..).step_by(2));
     numbered
-        .map(|(conditions, number)| {
+        .map(|(place, number)| {
+            let conditions = std::array::from_fn(|position| {
+                let codes = &codes[position];
+                codes[place % codes.len()]
+            });
             [
                 print_execute(number, 1, number, 1000, 1),
                 trade(number + 1, number + 1, 1, 1),

@@ -1,7 +1,7 @@
 //! What the messages of a source say: changes that fit the book as it is.
 
 use super::{side_byte, Source};
-use crate::book::LIVE_ORDERS;
+use crate::book::{Order, LIVE_ORDERS};
 use crate::wire::Body;
 
 impl Source {
@@ -35,8 +35,7 @@ impl Source {
 
     /// A change of a live order.
     fn order_body(&mut self, index: u32) -> Body {
-        let place = self.draw.random.below(self.live(index).len());
-        let live = self.live(index)[place];
+        let live = self.live_order(index);
         let order = live.number;
         let side = side_byte(live.side);
         let price = if self.draw.random.one_in(3) {
@@ -64,27 +63,51 @@ impl Source {
                 volume: self.draw.volume(),
                 side,
             },
-            _ => Body::Execute {
-                order,
-                trade: self.draw.id(),
-                price,
-                volume: self.part_of(live.volume),
-                printable: self.draw.flag(),
-                conditions: self.draw.conditions(),
-            },
+            _ => self.execute_body(live, price),
+        }
+    }
+
+    /// One of the live orders; there is one.
+    fn live_order(&mut self, index: u32) -> Order {
+        let place = self.draw.random.below(self.live(index).len());
+        self.live(index)[place]
+    }
+
+    /// A 103 of a live order, or a 110.
+    pub(super) fn execute_or_trade(&mut self, index: u32) -> Body {
+        if self.live(index).is_empty() || self.draw.random.one_in(2) {
+            return self.trade_body();
+        }
+        let live = self.live_order(index);
+        let price = self.draw.price(side_byte(live.side));
+        self.execute_body(live, price)
+    }
+
+    fn execute_body(&mut self, live: Order, price: u32) -> Body {
+        Body::Execute {
+            order: live.number,
+            trade: self.draw.id(),
+            price,
+            volume: self.part_of(live.volume),
+            printable: self.draw.flag(),
+            conditions: self.draw.conditions(),
+        }
+    }
+
+    fn trade_body(&mut self) -> Body {
+        Body::Trade {
+            trade: self.draw.id(),
+            price: self.draw.price(b'B'),
+            volume: self.draw.volume(),
+            printable: self.draw.flag(),
+            conditions: self.draw.conditions(),
         }
     }
 
     /// A type that changes no order.
     pub fn other_body(&mut self, index: u32) -> Body {
         match self.draw.random.below(9) {
-            0 | 1 => Body::Trade {
-                trade: self.draw.id(),
-                price: self.draw.price(b'B'),
-                volume: self.draw.volume(),
-                printable: self.draw.flag(),
-                conditions: self.draw.conditions(),
-            },
+            0 | 1 => self.trade_body(),
             2 | 3 => self.cross_body(),
             4 => self.cancel_body(index),
             5 => Body::Correction {

@@ -121,10 +121,21 @@ impl Source {
 
     /// A message that fits now, not applied. Past the last number it has one that was used.
     pub fn sample(&mut self, index: u32) -> Message {
-        let number = u32::try_from(self.expected(index))
-            .unwrap_or_else(|_| self.draw.random.pick(&[u32::MAX, 0, 1, 77]));
+        let number = self.number(index);
         let body = self.body(index);
         self.message(index, number, body)
+    }
+
+    /// A sample that is a 103 or a 110.
+    pub fn trade_sample(&mut self, index: u32) -> Message {
+        let number = self.number(index);
+        let body = self.execute_or_trade(index);
+        self.message(index, number, body)
+    }
+
+    fn number(&mut self, index: u32) -> u32 {
+        u32::try_from(self.expected(index))
+            .unwrap_or_else(|_| self.draw.random.pick(&[u32::MAX, 0, 1, 77]))
     }
 
     pub fn message(&mut self, index: u32, number: u32, body: Body) -> Message {
@@ -159,5 +170,38 @@ pub fn side_byte(side: Side) -> u8 {
     match side {
         Side::Buy => b'B',
         Side::Sell => b'S',
+    }
+}
+
+#[cfg(test)]
+mod tests {
+    use super::{Random, Source};
+    use crate::reader::Reader;
+    use crate::wire::{Body, Market};
+    use std::collections::HashSet;
+
+    /// A reader of the same market applies all, and every code comes in a 103 and in a 110.
+    #[test]
+    fn a_source_draws_every_code_of_its_market() {
+        for market in Market::ALL {
+            let mut source = Source::new(Random::new(5, "codes"), market);
+            let mut reader = Reader::new(market);
+            assert_eq!(source.register(7, 4, b"ABC"), Ok(()));
+            assert_eq!(reader.register(7, 4, b"ABC"), Ok(()));
+            let mut drawn = HashSet::new();
+            for _ in 0..2_000 {
+                let message = source.next();
+                assert_eq!(reader.apply(&message), Ok(()), "{message:?}");
+                assert_eq!(message.check(market), Ok(()), "{message:?}");
+                if let Body::Execute { conditions, .. } | Body::Trade { conditions, .. } =
+                    message.body
+                {
+                    let codes = conditions.into_iter().enumerate();
+                    drawn.extend(codes.map(|(position, code)| (message.kind(), position, code)));
+                }
+            }
+            let listed: usize = (0..4).map(|position| market.codes(position).count()).sum();
+            assert_eq!(drawn.len(), 2 * listed, "{market:?}");
+        }
     }
 }
