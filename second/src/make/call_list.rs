@@ -23,6 +23,12 @@ impl CallList {
         self.bytes
     }
 
+    /// The bytes from each call on.
+    #[cfg(test)]
+    pub fn from_each(&self) -> impl Iterator<Item = &[u8]> {
+        self.starts.iter().map(|start| &self.bytes[*start..])
+    }
+
     /// How many calls there are.
     pub fn count(&self) -> usize {
         self.starts.len()

@@ -1,5 +1,6 @@
 //! Lists of calls of every kind, from a seed.
 
+use super::call_list::CallList;
 use super::call_maker::Maker;
 use super::fills;
 use super::outputs;
@@ -29,6 +30,10 @@ pub const CALL_KINDS: [(&str, CallKind); 5] = [
 
 /// A file of `count` calls, or fewer where they would make it too long for the probe.
 pub fn calls(seed: u64, kind: CallKind, count: usize) -> Vec<u8> {
+    list(seed, kind, count).into_bytes()
+}
+
+fn list(seed: u64, kind: CallKind, count: usize) -> CallList {
     let mut maker = Maker::new(Random::new(seed, &format!("calls {kind:?}")));
     maker.any_market = kind == CallKind::Mixed;
     if maker.any_market {
@@ -56,7 +61,7 @@ pub fn calls(seed: u64, kind: CallKind, count: usize) -> Vec<u8> {
         let last = maker.random().pick(&last);
         maker.list.raw(last);
     }
-    maker.list.into_bytes()
+    maker.list
 }
 
 /// Registers some symbols, eight where books are to be full, and then tries a ninth.
@@ -162,8 +167,9 @@ fn push_fault(maker: &mut Maker) {
 
 #[cfg(test)]
 mod tests {
-    use super::{calls, CALL_KINDS};
+    use super::{calls, list, CallKind, CALL_KINDS};
     use crate::probe::{probe, LARGEST_FILE};
+    use std::collections::HashSet;
 
     #[test]
     fn a_seed_gives_one_list_of_as_many_calls() {
@@ -180,6 +186,38 @@ mod tests {
             let bytes = calls(4, kind, 100_000);
             assert!(bytes.len() <= LARGEST_FILE, "{name}");
             assert!(bytes.len() > LARGEST_FILE / 2, "{name}");
+        }
+    }
+
+    /// In as many lists as are compared, of as many calls.
+    #[test]
+    fn mixed_lists_have_states_of_every_market() {
+        let mut markets = HashSet::new();
+        for seed in 1..=25 {
+            let list = list(seed, CallKind::Mixed, 200);
+            let market = |call: &[u8]| match call {
+                [b'M', id, ..] => Some(*id),
+                _ => None,
+            };
+            markets.extend(list.from_each().filter_map(market));
+        }
+        assert!([1, 3, 9, 10, 11].iter().all(|id| markets.contains(id)));
+    }
+
+    /// The offsets that conditions alone have; other fields begin at 32 and 40 too.
+    #[test]
+    fn faults_and_mixed_lists_have_every_bad_condition() {
+        for kind in [CallKind::Faults, CallKind::Mixed] {
+            let lists = (1..=25).map(|seed| probe(&calls(seed, kind, 200)));
+            let text: String = lists.collect();
+            for offset in [29, 30, 31, 38, 39, 41] {
+                let end = format!(",{offset}");
+                let mut refused = text.lines().filter(|line| line.starts_with("S,4,"));
+                assert!(
+                    refused.any(|line| line.ends_with(&end)),
+                    "{kind:?} {offset}"
+                );
+            }
         }
     }
 }
