@@ -25,7 +25,7 @@ impl CallList {
 
     /// The bytes from each call on.
     #[cfg(test)]
-    pub fn from_each(&self) -> impl Iterator<Item = &[u8]> {
+    pub fn tails(&self) -> impl Iterator<Item = &[u8]> {
         self.starts.iter().map(|start| &self.bytes[*start..])
     }
 

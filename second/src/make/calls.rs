@@ -195,11 +195,8 @@ mod tests {
         let mut markets = HashSet::new();
         for seed in 1..=25 {
             let list = list(seed, CallKind::Mixed, 200);
-            let market = |call: &[u8]| match call {
-                [b'M', id, ..] => Some(*id),
-                _ => None,
-            };
-            markets.extend(list.from_each().filter_map(market));
+            let states = list.tails().filter(|call| call[0] == b'M');
+            markets.extend(states.filter_map(|call| call.get(1).copied()));
         }
         assert!([1, 3, 9, 10, 11].iter().all(|id| markets.contains(id)));
     }
