@@ -29,7 +29,7 @@ const ORDER_EDGES: [u64; 8] = [
     u64::MAX,
 ];
 
-/// Conditions of other positions, other markets and other feeds, and bytes that look like them.
+/// Conditions of other positions and other feeds, and bytes that look like them.
 const NEAR: &[u8] = b"@CFO567TUZIVl1R49MQPW \0";
 
 #[derive(Clone)]
@@ -134,21 +134,25 @@ impl Draw {
 
     /// Codes that the market lists, each position by itself.
     pub fn conditions(&mut self) -> [u8; 4] {
-        std::array::from_fn(|position| {
-            let codes: Vec<u8> = self.market.codes(position).collect();
-            self.random.pick(&codes)
-        })
+        std::array::from_fn(|position| self.code_of(self.market, position))
     }
 
-    /// A code that the market does not list for that position.
+    /// A code that the market does not list for that position, often one that another market lists.
     pub fn bad_code(&mut self, position: usize) -> u8 {
         loop {
+            let market = self.random.pick(&Market::ALL);
+            let other = self.code_of(market, position);
             let (any, near) = (self.random.byte(), self.random.pick(NEAR));
-            let code = self.random.pick(&[any, near, near]);
+            let code = self.random.pick(&[any, near, other, other]);
             if !self.market.lists(position, code) {
                 return code;
             }
         }
+    }
+
+    fn code_of(&mut self, market: Market, position: usize) -> u8 {
+        let codes: Vec<u8> = market.codes(position).collect();
+        self.random.pick(&codes)
     }
 
     /// A cross type or indicator.

@@ -68,6 +68,7 @@ pub fn conditions(calls: &mut Vec<u8>) {
         }
     }
     several(calls);
+    not_printed(calls);
 }
 
 /// The first of several bad conditions is told, whichever they are.
@@ -81,17 +82,42 @@ fn several(calls: &mut Vec<u8>) {
     }
 }
 
-/// A message with these conditions, read and written.
+/// A bad condition is bad whatever the printable byte says.
+fn not_printed(calls: &mut Vec<u8>) {
+    let conditions = [CODES[0].bad[0][0], CODES[0].good[1], b' ', b' '];
+    for raw in [raw(103), raw(110)] {
+        let mut bytes = bytes(&raw, conditions);
+        if let Some(flag) = raw.flag {
+            bytes[flag] = 0;
+        }
+        push_decode_on(Market::Nyse, calls, &bytes);
+        let hand = hand(&raw, Market::Nyse, conditions);
+        Hand { flag: 0, ..hand }.push_call(calls, raw.size);
+    }
+}
+
+/// A printed message with these conditions, read and written.
 fn push(calls: &mut Vec<u8>, raw: &Raw, market: Market, conditions: [u8; 4]) {
+    push_decode_on(market, calls, &bytes(raw, conditions));
+    hand(raw, market, conditions).push_call(calls, raw.size);
+}
+
+fn bytes(raw: &Raw, conditions: [u8; 4]) -> Vec<u8> {
     let mut bytes = raw.distinct(0x63);
+    if let Some(flag) = raw.flag {
+        bytes[flag] = 1;
+    }
     if let Some(place) = raw.conditions {
         bytes[place..place + 4].copy_from_slice(&conditions);
     }
-    push_decode_on(market, calls, &bytes);
+    bytes
+}
+
+fn hand(raw: &Raw, market: Market, conditions: [u8; 4]) -> Hand {
     let mut hand = Hand {
         market,
         ..hand_cases::distinct(raw.kind)
     };
     hand.plain[..4].copy_from_slice(&conditions);
-    hand.push_call(calls, raw.size);
+    hand
 }
