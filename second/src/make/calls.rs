@@ -35,7 +35,8 @@ pub fn calls(seed: u64, kind: CallKind, count: usize) -> Vec<u8> {
 
 fn list(seed: u64, kind: CallKind, count: usize) -> CallList {
     let mut maker = Maker::new(Random::new(seed, &format!("calls {kind:?}")));
-    maker.any_market = kind == CallKind::Mixed;
+    let with_faults = matches!(kind, CallKind::Faults | CallKind::Mixed);
+    maker.any_market = with_faults;
     if maker.any_market {
         maker.new_state();
     }
@@ -48,7 +49,7 @@ fn list(seed: u64, kind: CallKind, count: usize) -> CallList {
         push(&mut maker, now);
     }
     maker.list.keep(count, LARGEST_FILE);
-    if matches!(kind, CallKind::Faults | CallKind::Mixed) && maker.random().one_in(3) {
+    if with_faults && maker.random().one_in(3) {
         maker.list.keep(count.saturating_sub(1), LARGEST_FILE - 16);
         let last: [&[u8]; 6] = [
             b"Z",
@@ -191,14 +192,18 @@ mod tests {
 
     /// In as many lists as are compared, of as many calls.
     #[test]
-    fn mixed_lists_have_states_of_every_market() {
-        let mut markets = HashSet::new();
-        for seed in 1..=25 {
-            let list = list(seed, CallKind::Mixed, 200);
-            let states = list.tails().filter(|call| call[0] == b'M');
-            markets.extend(states.filter_map(|call| call.get(1).copied()));
+    fn faults_and_mixed_lists_have_states_of_every_market() {
+        for kind in [CallKind::Faults, CallKind::Mixed] {
+            let mut markets = HashSet::new();
+            for seed in 1..=25 {
+                let list = list(seed, kind, 200);
+                let states = list.tails().filter(|call| call[0] == b'M');
+                markets.extend(states.filter_map(|call| call.get(1).copied()));
+            }
+            for id in [1, 3, 9, 10, 11] {
+                assert!(markets.contains(&id), "{kind:?} {id}");
+            }
         }
-        assert!([1, 3, 9, 10, 11].iter().all(|id| markets.contains(id)));
     }
 
     /// The offsets that conditions alone have; other fields begin at 32 and 40 too.
