@@ -151,8 +151,10 @@ fn only_five_numbers_name_a_market() {
     let wrong_type = [4, 0, 0, 0];
     let zeros = "00".repeat(53);
     for id in 0..=255_u8 {
-        let market = TABLE.iter().any(|(known, _, _)| *known == id);
-        let (told, read) = if market {
+        let row = TABLE.iter().find(|(known, _, _)| *known == id);
+        let market = row.map(|(_, market, _)| *market);
+        assert_eq!(Market::of_id(id), market, "{id}");
+        let (told, read) = if market.is_some() {
             ("M\nN\n".to_string(), format!("D,3,{zeros}\nD,3,{zeros}\n"))
         } else {
             ("?\n".to_string(), "?\n".to_string())

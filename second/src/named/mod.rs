@@ -114,7 +114,9 @@ impl Cases {
 
 #[cfg(test)]
 mod tests {
+    use super::fields::one_of_each;
     use super::Cases;
+    use crate::wire::Market;
     use std::collections::HashSet;
 
     #[test]
@@ -122,5 +124,15 @@ mod tests {
         let cases = Cases::all();
         let names: HashSet<_> = cases.files.iter().map(|(name, _)| name).collect();
         assert_eq!(names.len(), cases.files.len());
+    }
+
+    /// The cases are made of messages like these, and spoil what they mean to.
+    #[test]
+    fn one_of_each_is_good_on_every_market() {
+        for message in one_of_each() {
+            for market in Market::ALL {
+                assert_eq!(message.check(market), Ok(()), "{message:?}");
+            }
+        }
     }
 }

@@ -33,7 +33,7 @@ pub fn distinct(kind: u16) -> Hand {
 }
 
 /// This byte wherever any byte is good on NYSE.
-fn filled(kind: u16, byte: u8) -> Hand {
+pub fn filled(kind: u16, byte: u8) -> Hand {
     let wide = u32::from_le_bytes([byte; 4]);
     let order = u64::from_le_bytes([byte; 8]);
     let mut plain = [byte; 53];

@@ -24,9 +24,12 @@ pub fn input() -> Vec<u8> {
 
 #[cfg(test)]
 mod tests {
+    use super::hand_cases::{distinct, filled};
+    use super::raw::raws;
     use super::{answers, input};
     use crate::cursor::Cursor;
     use crate::wire::bytes::u16_at;
+    use crate::wire::{read, write, Market};
     use std::collections::HashSet;
 
     /// Document 01's table: each type with the offsets of its fields that have a rule.
@@ -98,6 +101,28 @@ mod tests {
             }
         }
         assert_eq!(named, expected);
+    }
+
+    /// A rule that spoils what is meant to be good would leave the cases made of it without meaning.
+    #[test]
+    fn what_is_meant_to_be_good_is_good() {
+        for raw in raws() {
+            for byte in 0..=255 {
+                for bytes in [raw.distinct(byte), raw.filled(byte)] {
+                    let (_, message) = read(Market::Nyse, &bytes, 0);
+                    assert!(message.is_ok(), "{bytes:02x?}");
+                }
+            }
+            for hand in [
+                distinct(raw.kind),
+                filled(raw.kind, 0),
+                filled(raw.kind, 0xFF),
+            ] {
+                let message = hand.message().expect("the type is in the table");
+                let written = write(hand.market, &message, &mut [0; 128]);
+                assert_eq!(written, Ok(raw.size), "{message:?}");
+            }
+        }
     }
 
     /// No typed message has a type outside the table, so the writer would not be called.
