@@ -145,22 +145,23 @@ fn a_state_keeps_its_market() {
     }
 }
 
-/// Every number but the five, in the probe and in the vectors.
+/// In the probe, and in both calls of the vectors that name a market.
 #[test]
 fn only_five_numbers_name_a_market() {
-    let wrong_type = [4, 0, 0, 0];
-    let zeros = "00".repeat(53);
+    let read = format!("D,3,{}\n", "00".repeat(53));
     for id in 0..=255_u8 {
         let row = TABLE.iter().find(|(known, _, _)| *known == id);
         let market = row.map(|(_, market, _)| *market);
         assert_eq!(Market::of_id(id), market, "{id}");
-        let (told, read) = if market.is_some() {
-            ("M\nN\n".to_string(), format!("D,3,{zeros}\nD,3,{zeros}\n"))
-        } else {
-            ("?\n".to_string(), "?\n".to_string())
+        // A message of no type, and a 114 that is written into no room.
+        let unread = [b'D', id, 4, 0, 4, 0, 0, 0];
+        let unwritten = [&[b'M', id, 114, 0][..], &[0; 102]].concat();
+        let [told, read, written] = match market {
+            Some(_) => ["M\nN\n", &read, "M,15,0,\n"],
+            None => ["?\n"; 3],
         };
         assert_eq!(probe(&[b'M', id, b'N']), told, "{id}");
-        let call = [&[b'D', id, 4, 0][..], &wrong_type].concat();
-        assert_eq!(vectors::answers(&call.repeat(2)), read, "{id}");
+        assert_eq!(vectors::answers(&unread), read, "{id}");
+        assert_eq!(vectors::answers(&unwritten), written, "{id}");
     }
 }

@@ -21,6 +21,7 @@ pub const CONDITIONS: usize = 4;
 type Value = (u8, &'static [Market]);
 
 const ALL: &[Market] = &Market::ALL;
+/// Where opening, reopening and closing trades are listed.
 const AUCTIONS: &[Market] = &[Nyse, Arca, American];
 const TEXAS: &[Market] = &[Texas];
 
