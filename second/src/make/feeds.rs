@@ -39,7 +39,8 @@ pub const FEED_KINDS: [(&str, FeedKind); 8] = [
     ("mixed", FeedKind::Mixed),
 ];
 
-/// A feed of `count` messages of NYSE, the program's market. Only index 7 is registered where the program reads it.
+/// A feed of `count` messages of NYSE, the program's market. Only index 7 is registered where the
+/// program reads it.
 pub fn feed(seed: u64, kind: FeedKind, count: usize) -> Vec<u8> {
     let mut maker = Maker::new(Random::new(seed, &format!("feed {kind:?}")));
     let mut now = kind;
@@ -144,12 +145,17 @@ impl Maker {
         }
     }
 
+    /// A 103 or 110 that the source applies and no reader of its market does.
+    fn lost_for_its_conditions(&mut self) -> Vec<u8> {
+        let index = self.source.index();
+        let message = self.source.trade_sample(index);
+        self.source.apply(message);
+        to_bytes(&with_bad_conditions(message, &mut self.source.draw))
+    }
+
     fn maybe_damaged(&mut self) -> Vec<u8> {
         if self.random().one_in(40) {
-            let index = self.source.index();
-            let message = self.source.trade_sample(index);
-            self.source.apply(message);
-            return to_bytes(&with_bad_conditions(message, &mut self.source.draw));
+            return self.lost_for_its_conditions();
         }
         let message = self.source.next();
         let draw = &mut self.source.draw;

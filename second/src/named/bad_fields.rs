@@ -51,7 +51,8 @@ fn add_one() -> Message {
     add(1, 1, BUY, 1000, 10)
 }
 
-/// Each type of the table with each of its fields bad, in the order of the offsets.
+/// Each type of the table with each of its fields bad, in the order of the offsets. Conditions have
+/// cases of their own.
 fn alone() -> Vec<Message> {
     let types: [(Message, &[Bad]); 13] = [
         (add_one(), &[NANOSECONDS, VOLUME, SIDE]),
