@@ -1,5 +1,5 @@
-//! The conditions that each market lists: request M-107, written down here once more from source 001,
-//! with source 003's letters.
+//! The conditions that each market lists: request M-107, written down here once more from source
+//! 001, with source 003's letters.
 
 use second::answer::Refusal;
 use second::make::bad_fields::{spoiled, Bad};
@@ -26,8 +26,8 @@ fn both_types() -> [(Message, usize); 2] {
     ]
 }
 
-/// Calls `test` with every byte in every position of both types on every market, and with the refusal
-/// that is expected.
+/// Calls `test` with every byte in every position of both types on every market, and with the
+/// refusal that is expected.
 fn for_every_code(test: impl Fn(Market, Message, (usize, u8), Option<Refusal>)) {
     for (_, market, lists) in TABLE {
         for (message, first) in both_types() {

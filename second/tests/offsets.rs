@@ -1,5 +1,5 @@
-//! Which bad field a refusal names: requests M-111 and M-107. Every number expected here was copied by hand
-//! from document 01's table; none is asked of the program.
+//! Which bad field a refusal names: requests M-111 and M-107. Every number expected here was copied
+//! by hand from document 01's table; none is asked of the program.
 
 use second::answer::Refusal;
 use second::line::line;
@@ -66,7 +66,8 @@ const TABLE: [(u16, usize, &[Field]); 13] = [
     (34, 46, &[(8, TIME)]),
 ];
 
-/// A message of NYSE with good values where there is a rule, and bytes that would be bad everywhere else.
+/// A message of NYSE with good values where there is a rule, and bytes that would be bad everywhere
+/// else.
 fn good(kind: u16, size: usize, fields: &[Field]) -> Vec<u8> {
     let mut bytes = vec![0xFF; size];
     put(&mut bytes, 0, &(size as u16).to_le_bytes());

@@ -44,8 +44,8 @@ fn every_byte(cases: &mut Cases) {
     }
 }
 
-/// Every byte in each place of a firm, a cross type, an indicator and plain bytes, and in the reserved
-/// byte of a 103 and of a 104, which is as long.
+/// Every byte in each place of a firm, a cross type, an indicator and plain bytes, and in the
+/// reserved byte of a 103 and of a 104, which is as long.
 fn free_bytes(cases: &mut Cases) {
     cases.calls("every-byte-where-any-is-good", |calls| {
         for byte in 0..=255_u8 {

@@ -7,8 +7,8 @@ use crate::make::bad_fields::{spoiled, Bad};
 use crate::make::messages::*;
 use crate::wire::Message;
 
-/// A bad code for each position: a space where none is listed, a code of another position, no space,
-/// and the small letter that looks like odd lot's.
+/// A bad code for each position: a space where none is listed, a code of another position, no
+/// space, and the small letter that looks like odd lot's.
 const BAD: [Bad; 4] = [
     Bad::Condition(0, b' '),
     Bad::Condition(1, b'@'),

@@ -5,8 +5,8 @@ use super::raw::{raws, Raw};
 use crate::wire::message::{EXECUTE, TRADE};
 use crate::wire::Market;
 
-/// Every field good on NYSE, with a byte of its own in every place, spare bytes too: those behind the
-/// conditions are no codes.
+/// Every field good on NYSE, with a byte of its own in every place, spare bytes too: those behind
+/// the conditions are no codes.
 pub fn distinct(kind: u16) -> Hand {
     let mut plain = [0; 53];
     for (place, byte) in plain.iter_mut().enumerate() {

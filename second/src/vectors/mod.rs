@@ -103,7 +103,8 @@ mod tests {
         assert_eq!(named, expected);
     }
 
-    /// A rule that spoils what is meant to be good would leave the cases made of it without meaning.
+    /// A rule that spoils what is meant to be good would leave the cases made of it without
+    /// meaning.
     #[test]
     fn what_is_meant_to_be_good_is_good() {
         for raw in raws() {

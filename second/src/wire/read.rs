@@ -25,8 +25,8 @@ pub fn extent(stream: &[u8], at: usize) -> Result<usize, Refusal> {
     Ok(size)
 }
 
-/// Reads the message of a market at `at`. The position handed back is that of the next message; it is `at`
-/// itself when no message has its extent there, and then no further message can be read.
+/// Reads the message of a market at `at`. The position handed back is that of the next message; it
+/// is `at` itself when no message has its extent there, and then no further message can be read.
 pub fn read(market: Market, stream: &[u8], at: usize) -> (usize, Result<Message, Refusal>) {
     match extent(stream, at) {
         Ok(size) => (at + size, decode(market, &stream[at..at + size])),

@@ -1,5 +1,5 @@
-//! The field rules, and where each checked field stands: document 01, "Message layouts", and request
-//! M-107 for the conditions.
+//! The field rules, and where each checked field stands: document 01, "Message layouts", and
+//! request M-107 for the conditions.
 
 use super::conditions::{Market, CONDITIONS};
 use super::message::{Body, Message, NANOSECONDS_PER_SECOND};
@@ -9,8 +9,8 @@ use crate::answer::Refusal;
 type BadField = Option<usize>;
 
 impl Message {
-    /// Answers 4 to a field that is bad on this market. Of several the first is the one with the lowest offset, in
-    /// whatever order the rules stand: request M-111.
+    /// Answers 4 to a field that is bad on this market. Of several the first is the one with the
+    /// lowest offset, in whatever order the rules stand: request M-111.
     pub fn check(&self, market: Market) -> Result<(), Refusal> {
         let own = self.body.bad_fields(market).into_iter();
         let bad = own.chain([self.bad_nanoseconds()]).flatten();
