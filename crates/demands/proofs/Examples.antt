@@ -133,16 +133,16 @@ pub after-the-last : (s : Symbol) (i n : ℕ) (e : Effect) → s .entry .standin
 unfolding meeting ruled enacted
 after-the-last s i n e fresh turn h = rw (fresh, lt-ltb n (s .entry .standing .expected) (omega arith))
 
--- ---- such a state there is
-pub record WithABC : Type 0 where
+-- ---- such a state there is, of every market
+pub record WithABC (market : Market) : Type 0 where
   pub book : Book
-  pub has : HasABC book
+  pub has : HasABCOn market book
 
-registers-ABC : (b : Book) → Fresh Market.Nyse b → WithABC
+registers-ABC : (market : Market) (b : Book) → Fresh market b → WithABC market
 unfolding firstWhere nameBad
-registers-ABC b f =
+registers-ABC market b f =
     let e = some-entered index name scale (omega arith) refl in
     record { book = with b (e .result); has = registered f (registering-steps b index name scale (e .result) (rw (f .names) (e .registers))) }
 
-pub some-has-ABC : WithABC
-some-has-ABC = registers-ABC _ (fresh Market.Nyse)
+pub some-has-ABC : (market : Market) → WithABC market
+some-has-ABC market = registers-ABC market _ (fresh market)

@@ -10,5 +10,6 @@ pub mod Demand3
 pub mod Clauses
 pub mod OneOutcome
 pub mod Examples
+pub mod TwoMarkets
 pub mod Unfaithful
 pub mod EveryNumber

@@ -9,7 +9,7 @@ use Rattle.wire.specs.declared.markets.Market.{Market}
 use Rattle.wire.specs.Outcome.{done}
 use Rattle.wire.specs.Bytes.{paddedPlain}
 use Rattle.wire.specs.Table.{shapeOf}
-use Rattle.wire.specs.Fields.{fieldsAt, arrayAt, arrayOf, faultOf}
+use Rattle.wire.specs.Fields.{fieldsAt, arrayAt, faultOf}
 use Rattle.wire.specs.Message.{typeOf, fieldsOf, messageOf, faultUnder, faultIn}
 use Rattle.wire.specs.Reading.{msgType, Read, readOf}
 use Rattle.wire.proofs.Cases.{done-is-not-refused, reached}

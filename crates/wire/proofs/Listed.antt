@@ -1,11 +1,11 @@
--- The lists of conditions once more: for each market and position as plain bytes, by computation; and a code is among them where an entry of the list has it and holds for the market.
+-- The lists of conditions once more: for each market and position as plain bytes, by computation; and a code is on a list where an entry has it and holds for the market.
 use mathlib.Core.Bool.{Bool, true, false, cond, _&&_}
 use mathlib.Core.List.{List, [], _∷_}
 use mathlib.Core.Path.{_≡_, refl, sym, ap, _∙_}
 use Prim.Native.Nat.{ℕ, _≤_}
 use lib.Dec.{eqb}
-use lib.ListN.{getD, List·getD-eq-default}
-use Rattle.wire.specs.Markets.{marketNumber, namedOf, Code, settlement, exemption, hours, detail, codesOf, member, lists}
+use lib.ListN.{List·getD-eq-default}
+use Rattle.wire.specs.Markets.{marketNumber, namedOf, Code, codesOf, member, lists, listed}
 use Rattle.wire.specs.declared.markets.Market.{Market}
 use Rattle.wire.specs.declared.markets.Market.the-variants.{Nyse, Arca, American, National, Texas}
 use Rattle.wire.specs.declared.markets.Named.{Named}
@@ -19,12 +19,17 @@ named-again American = refl
 named-again National = refl
 named-again Texas = refl
 
--- ---- the four lists of a market: `@` is 64, `C` 67, a space 32, `F` 70, `O` 79, `5` 53, `6` 54, `7` 55, `T` 84, `U` 85, `Z` 90, `I` 73, `V` 86
+-- ---- what a market lists, position by position: `@` is 64, `C` 67, a space 32, `F` 70, `O` 79, `5` 53, `6` 54, `7` 55, `T` 84, `U` 85, `Z` 90, `I` 73, `V` 86
 pub record Lists (m : Market) (first second third fourth : List ℕ) : Type 0 where
-  pub one : codesOf m settlement ≡ first
-  pub two : codesOf m exemption ≡ second
-  pub three : codesOf m hours ≡ third
-  pub four : codesOf m detail ≡ fourth
+  pub one : (c : ℕ) → listed m 0 c ≡ member c first
+  pub two : (c : ℕ) → listed m 1 c ≡ member c second
+  pub three : (c : ℕ) → listed m 2 c ≡ member c third
+  pub four : (c : ℕ) → listed m 3 c ≡ member c fourth
+  pub no-more : (position c : ℕ) → 4 ≤ position → listed m position c ≡ false
+
+pub none-beyond : (m : Market) (position c : ℕ) → 4 ≤ position → listed m position c ≡ false
+unfolding listed
+none-beyond m position c h = ap (λ (l : List Code). member c (codesOf m l)) (List·getD-eq-default lists [] h)
 
 pub record EveryList : Type 0 where
   pub nyse : Lists Nyse (64 ∷ []) (32 ∷ 70 ∷ 79 ∷ 53 ∷ 54 ∷ []) (32 ∷ 84 ∷ 85 ∷ 90 ∷ []) (32 ∷ 73 ∷ [])
@@ -34,12 +39,13 @@ pub record EveryList : Type 0 where
   pub texas : Lists Texas (64 ∷ 67 ∷ []) (32 ∷ 70 ∷ 55 ∷ []) (32 ∷ 84 ∷ 85 ∷ 90 ∷ []) (32 ∷ 73 ∷ 86 ∷ [])
 
 pub every-list : EveryList
+unfolding listed
 every-list = record {
-  nyse = record { one = refl; two = refl; three = refl; four = refl };
-  arca = record { one = refl; two = refl; three = refl; four = refl };
-  american = record { one = refl; two = refl; three = refl; four = refl };
-  national = record { one = refl; two = refl; three = refl; four = refl };
-  texas = record { one = refl; two = refl; three = refl; four = refl };
+  nyse = record { one = λ c. refl; two = λ c. refl; three = λ c. refl; four = λ c. refl; no-more = none-beyond Nyse };
+  arca = record { one = λ c. refl; two = λ c. refl; three = λ c. refl; four = λ c. refl; no-more = none-beyond Arca };
+  american = record { one = λ c. refl; two = λ c. refl; three = λ c. refl; four = λ c. refl; no-more = none-beyond American };
+  national = record { one = λ c. refl; two = λ c. refl; three = λ c. refl; four = λ c. refl; no-more = none-beyond National };
+  texas = record { one = λ c. refl; two = λ c. refl; three = λ c. refl; four = λ c. refl; no-more = none-beyond Texas };
 }
 
 -- ---- an entry decides
@@ -66,7 +72,3 @@ at-code m ks c k e = sym (member-among m c ks ∙ ap (λ (x : ℕ). among m x ks
 pub by-market : (held : Bool) → held ≡ cond held true false
 by-market false = refl
 by-market true = refl
-
--- beyond the fourth position there is no list
-pub beyond : (position : ℕ) → 4 ≤ position → getD lists position [] ≡ []
-beyond position h = List·getD-eq-default lists [] h

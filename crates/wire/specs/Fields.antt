@@ -1,4 +1,4 @@
--- The fields of a message, by its layout, and document 01's bad fields.
+-- The fields of a message, by its layout, and the bad ones: document 01's, and conditions that its market does not list.
 use Prim.Native.Nat.{ℕ, _+_, _-_, _≤_}
 use mathlib.Core.Path.{_≡_}
 use mathlib.Core.List.{List, [], _∷_}

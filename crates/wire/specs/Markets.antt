@@ -1,4 +1,4 @@
--- The markets with their numbers, and source 001's lists of conditions: the values of a 103 and of a 110, position by position, each with the markets that it holds for.
+-- The markets with their numbers, and the conditions that source 001 lists for a 103 and a 110, alike: the codes of each position, each with the markets that it is listed for (M-107).
 use Prim.Native.Nat.{ℕ}
 use mathlib.Core.Bool.{Bool, true, false, cond}
 use mathlib.Core.List.{List, [], _∷_}
@@ -16,13 +16,13 @@ marketNumber American = 9
 marketNumber National = 10
 marketNumber Texas = 11
 
--- the market of a number, among some
-abbrev pub numbered : ℕ → List Market → Named
-numbered n [] = Named.Unknown
-numbered n (m ∷ ms) = cond (eqb n (marketNumber m)) (Named.Market m) (numbered n ms)
+-- the market of a number, among these
+abbrev pub namedAmong : List Market → ℕ → Named
+namedAmong [] n = Named.Unknown
+namedAmong (m ∷ ms) n = cond (eqb n (marketNumber m)) (Named.Market m) (namedAmong ms n)
 
 unfoldable pub namedOf : ℕ → Named
-namedOf n = numbered n (Nyse ∷ Arca ∷ American ∷ National ∷ Texas ∷ [])
+namedOf n = namedAmong (Nyse ∷ Arca ∷ American ∷ National ∷ Texas ∷ []) n
 
 -- ---- the lists
 
@@ -45,7 +45,7 @@ onArcaAmericanNyse American = true
 onArcaAmericanNyse National = false
 onArcaAmericanNyse Texas = false
 
--- listed with no market named, with "Arca, American and NYSE only", and with "Texas only"
+-- listed for all, for these three, and for Texas alone
 abbrev pub everywhere : ℕ → Code
 everywhere c = record { code = c; markets = λ m. true }
 
@@ -80,9 +80,10 @@ abbrev pub member : ℕ → List ℕ → Bool
 member c [] = false
 member c (x ∷ xs) = cond (eqb c x) true (member c xs)
 
--- does the market list the code at this position? The first one is 0, and beyond the fourth nothing is listed.
+-- the four positions, the first one 0; beyond them nothing is listed
 abbrev pub lists : List (List Code)
 lists = settlement ∷ exemption ∷ hours ∷ detail ∷ []
 
+-- does the market list the code at this position?
 unfoldable pub listed : Market → ℕ → ℕ → Bool
 listed m position c = member c (codesOf m (getD lists position []))

@@ -4,7 +4,7 @@ use Prim.Native.Nat.{ℕ}
 use native.Mathlib.Omega.{arith}
 use borrow.Author.Needs.{needs}
 use Rattle.wire.specs.Markets.{listed}
-use Rattle.wire.proofs.Listed.{beyond}
+use Rattle.wire.proofs.Listed.{none-beyond}
 use Rattle.wire.proofs.markets.condition_listed.Statement.{statement}
 use Rattle.wire.proofs.markets.condition_listed.Tie as tie
 
@@ -37,8 +37,7 @@ unfolding listed
 returns-4 c = let a = c .before .before .args in c .detail-listed .ensures ∙ sym (ap (λ (n : ℕ). listed (a .market) n (a .code)) (c .before .match .keys4))
 
 returns-5 : tie.Need-returns-5
-unfolding listed
-returns-5 c = let r = c .match .rest in rw (beyond (c .before .args .position) (omega (arith, r)))
+returns-5 c = let a = c .before .args in sym (none-beyond (a .market) (a .position) (a .code) (omega (arith, c .match .rest)))
 
 pub condition-listed-spec : {M : Type 1} → statement M
 condition-listed-spec =

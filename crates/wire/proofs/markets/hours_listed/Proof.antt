@@ -1,6 +1,5 @@
 -- Each arm is an entry of the list, and every other byte is none of them.
 use mathlib.Core.Path.{sym, _∙_}
-use borrow.Author.Needs.{needs}
 use borrow.Author.Tests.{ne-eqb}
 use Rattle.wire.specs.Markets.{hours}
 use Rattle.wire.proofs.Listed.{member-among, at-code}
