@@ -6,6 +6,7 @@ use Rattle.wire.specs.Table.{shapeOf}
 use Rattle.wire.specs.Markets.{listed}
 use Rattle.wire.specs.Fields.{firstBad, faultOf}
 use Rattle.wire.specs.Reading.{reachBy, reachOf, readBy, readBody, readSized, readShape, readTyped, readReached, readOf}
+use Rattle.wire.specs.declared.markets.Market.{Market}
 use Rattle.places.specs.Places.{firstWhere, fold, sumBy, insert, remove, look, tabulate}
 use Rattle.symbols.specs.State.{placeOf, foundIn, vacancyOf, paddedName}
 use Rattle.symbols.specs.Registering.{nameBad, registered, toldOf}
@@ -33,12 +34,12 @@ use Rattle.day.specs.Rows.{Row, resultOf, ByRule, ByCalls, AllRows, rows
 by-calls : (r : Row) → ByRule r → ByCalls r
 unfolding moveOf
 by-calls r h = record {
-  by-calls = λ p reads moves.
+  by-calls = λ {market = market} p reads moves.
       let a = reads-after (began-wf (has-began p)) reads in
       let o = moves .obeys (a .sound) in
       let before = a .seen ∙ ap (λ (v : View). stepsOf v (r .after)) (has-view p) in
       (λ i. record { answer = o .answer i; moves = moves .at i; quote = quoteOf index (o .next-view i) })
-      ∙ ap (λ (v : View). resultOf v (r .bytes)) before ∙ h;
+      ∙ ap (λ (v : View). resultOf v (r .bytes)) before ∙ h market;
 }
 
 all-by-calls : (rs : List Row) → AllRows ByRule rs → AllRows ByCalls rs
@@ -47,17 +48,17 @@ all-by-calls (r ∷ rs) h = (by-calls r (h .0), all-by-calls rs (h .1))
 
 by-rule : AllRows ByRule rows
 unfolding listed value littleEndian shapeOf firstBad faultOf reachBy reachOf readBy readBody readSized readShape readTyped readReached readOf firstWhere fold sumBy insert remove look placeOf foundIn vacancyOf applyTo dealTo nameBad registered bestStep sharesAt levelOf quoteOf ruled enacted meeting actOn meant stepOf moveOf stepsOf
-by-rule = (refl, (refl, (refl, (refl, (refl, (refl, (refl, (refl, (refl, (refl, (refl, (refl, (refl, tt)))))))))))))
+by-rule = ((λ market. refl), ((λ market. refl), ((λ market. refl), ((λ market. refl), ((λ market. refl), ((λ market. refl), ((λ market. refl), ((λ market. refl), ((λ market. refl), ((λ market. refl), ((λ market. refl), ((λ market. refl), ((λ market. refl), tt)))))))))))))
 
 -- what is told of ABC is what the marked case has
-abc-told : {b : Book} → HasABC b → told b marked.add ≡ marked.abc
+abc-told : {market : Market} {b : Book} → HasABC market b → told b marked.add ≡ marked.abc
 unfolding firstWhere placeOf foundIn vacancyOf nameBad registered toldOf toldIn paddedName tabulate
 abc-told p = ap (toldIn 7) (has-view p) ∙ refl
 
 line-l : LineL
 unfolding value littleEndian shapeOf firstBad faultOf reachBy reachOf readBy readBody readSized readShape readTyped readReached readOf
 line-l = record {
-  reads = refl;
+  reads = λ market. refl;
   by-calls = λ p out after h promise room.
       promise (began-wf (has-began h)) ∙ (λ i. lineOf (has-view h i .market) (abc-told h i) marked.add marked.firm marked.sequenceL marked.secondL out) ∙ case-l _ out room;
 }

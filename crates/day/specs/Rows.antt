@@ -26,7 +26,7 @@ pub record Result : Type 0 where
   pub moves : ℕ
   pub quote : Quote
 
--- A row: after these messages, starting from a new state of NYSE with ABC registered, these bytes come to this
+-- A row: after these messages, starting from a new state of any market with ABC registered, these bytes come to this
 pub record Row : Type 0 where
   pub after : List (List ℕ)
   pub bytes : List ℕ
@@ -37,11 +37,11 @@ abbrev pub resultOf : View → List ℕ → Result
 resultOf v s = record { answer = moveOf v s 0 .answer; moves = landing (reachOf (drop 0 s)) 0; quote = quoteOf index (moveOf v s 0 .view) }
 
 abbrev pub ByRule : Row → Type 0
-ByRule r = resultOf (stepsOf viewABC (r .after)) (r .bytes) ≡ r .result
+ByRule r = (market : Market) → resultOf (stepsOf (viewABC market) (r .after)) (r .bytes) ≡ r .result
 
 -- for any states that the calls hand back
 pub record ByCalls (r : Row) : Type 0 where
-  pub by-calls : {b c : Book} {m : Moved} → HasABC b → Reads b (r .after) c → Moves c (r .bytes) 0 m
+  pub by-calls : {market : Market} {b c : Book} {m : Moved} → HasABC market b → Reads b (r .after) c → Moves c (r .bytes) 0 m
       → record { answer = m .answer; moves = m .at; quote = quoteOf index (view (m .book)) } ≡ r .result
 
 abbrev pub AllRows : (Row → Type 0) → List Row → Type 0
@@ -114,8 +114,8 @@ rows =
 
 -- ---- L: the line of #3, an add, read from its bytes, into any buffer that has room
 pub record LineL : Type 0 where
-  pub reads : readOf Market.Nyse (add 3 1001 buy 1234500 200) ≡ readAs (only (done marked.add)) marked.firm
-  pub by-calls : {b : Book} (p : Printed) (out after : List ℕ) → HasABC b → (Wf b → printed p after ≡ lineOf (view b .market) (told b marked.add) marked.add marked.firm marked.sequenceL marked.secondL out)
+  pub reads : (market : Market) → readOf market (add 3 1001 buy 1234500 200) ≡ readAs (only (done marked.add)) marked.firm
+  pub by-calls : {market : Market} {b : Book} (p : Printed) (out after : List ℕ) → HasABC market b → (Wf b → printed p after ≡ lineOf (view b .market) (told b marked.add) marked.add marked.firm marked.sequenceL marked.secondL out)
       → length marked.lineL ≤ length out → printed p after ≡ leaving (only (done (length marked.lineL))) (marked.lineL ++ drop (length marked.lineL) out)
 
 -- ---- all of the day

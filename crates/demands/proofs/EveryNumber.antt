@@ -3,8 +3,9 @@ use mathlib.Core.List.{List, [], _∷_}
 use mathlib.Core.Path.{_≡_, refl}
 use Prim.Native.Nat.{ℕ, zero, suc, _+_}
 use lib.ListN.{replicate}
-use Rattle.wire.specs.Outcome.{done, refused, only, badAt}
-use Rattle.wire.specs.Bytes.{value, littleEndian, plainRoom}
+use Rattle.wire.specs.Outcome.{done, refused, numberOf, only, badAt}
+use Rattle.wire.specs.Bytes.{value, littleEndian, plainRoom, paddedPlain}
+use Rattle.wire.specs.Markets.{listed}
 use Rattle.wire.specs.Table.{shapeOf}
 use Rattle.wire.specs.Fields.{firstBad, faultOf}
 use Rattle.wire.specs.Reading.{reachBy, reachOf, readBy, readBody, readSized, readShape, readTyped, readReached, readOf}
@@ -30,8 +31,8 @@ use Rattle.columns.specs.Columns.{rendered}
 use Rattle.page.specs.Printing.{hasNoLine, laid, lineBy, lineOf}
 use Rattle.page.specs.Printout.{passedText, endText, quoteText, closing}
 use Rattle.page.specs.Laying.{layFrom, layOf}
-use Rattle.demands.specs.Examples.{name, scale, viewABC}
-use Rattle.demands.specs.Messages.{index, buy, add, delete, clear}
+use Rattle.demands.specs.Examples.{name, scale, viewABC, inCash}
+use Rattle.demands.specs.Messages.{index, buy, add, delete, executeWith, clear}
 
 -- ---- `wire`
 abbrev small : List ℕ
@@ -45,6 +46,13 @@ deletion nanos = Message.Delete (record { nanos = nanos; index = index; number =
 
 abbrev zeros : List ℕ
 zeros = replicate plainRoom 0
+
+-- a trade that is not displayed, and its array with these conditions
+abbrev hidden : Message
+hidden = Message.NonDisplayed (record { nanos = 125; index = index; number = 1 }) 1 1234500 200 1
+
+abbrev withConditions : (settlement exemption hours detail : ℕ) → List ℕ
+withConditions settlement exemption hours detail = paddedPlain (settlement ∷ exemption ∷ hours ∷ detail ∷ [])
 
 -- NYSE's, as those of the views
 abbrev nyse : Market
@@ -60,6 +68,17 @@ pub record ByWire : Type 0 where
   pub read-4 : readOf nyse (add 1 1001 0 1234500 200) .outcome ≡ refused 4
   pub read-4-at : readOf nyse (add 1 1001 0 1234500 200) .offset ≡ 32
   pub read-4-first : readOf nyse (add 1 1001 0 1234500 0) .offset ≡ 28
+  -- conditions: one that Texas alone lists, zeros that are no spaces, and a small l for odd lot
+  pub read-4-condition : readOf nyse (inCash 1 1001 1 1234500 200) .outcome ≡ refused 4
+  pub read-4-condition-at : readOf nyse (inCash 1 1001 1 1234500 200) .offset ≡ 38
+  pub read-4-zero-at : readOf nyse (executeWith 64 0 32 32 1 1001 1 1234500 200) .offset ≡ 39
+  pub read-4-letter-at : readOf nyse (executeWith 64 32 32 108 1 1001 1 1234500 200) .offset ≡ 41
+  pub read-0-texas : numberOf (readOf Market.Texas (inCash 1 1001 1 1234500 200) .outcome) ≡ 0
+  pub test-0-condition : badFieldOf nyse hidden (withConditions 64 79 84 73) ≡ only (done tt)
+  pub test-4-condition : badFieldOf Market.National hidden (withConditions 64 79 84 73) ≡ badAt 30
+  pub write-4-condition : writeOf nyse hidden (withConditions 32 32 32 32) (replicate 33 0) .outcome ≡ refused 4
+  pub write-4-condition-at : writeOf nyse hidden (withConditions 32 32 32 32) (replicate 33 0) .offset ≡ 29
+  pub write-0-condition : writeOf nyse hidden (withConditions 64 32 32 32) (replicate 33 0) .outcome ≡ done 33
   pub test-0 : badFieldOf nyse (deletion 125) zeros ≡ only (done tt)
   pub test-4 : badFieldOf nyse (deletion 1000000000) zeros ≡ badAt 4
   pub write-0 : writeOf nyse (deletion 125) zeros (replicate 25 0) .outcome ≡ done 25
@@ -68,8 +87,8 @@ pub record ByWire : Type 0 where
   pub write-15 : writeOf nyse (deletion 125) zeros (replicate 24 0) .outcome ≡ refused 15
 
 pub by-wire : ByWire
-unfolding value littleEndian shapeOf firstBad faultOf faultIn reachBy reachOf readBy readBody readSized readShape readTyped readReached readOf writeSized writeBy writeShape writeOf
-by-wire = record { reach-0 = refl; reach-1 = refl; reach-2 = refl; read-1 = refl; read-2 = refl; read-3 = refl; read-4 = refl; read-4-at = refl; read-4-first = refl; test-0 = refl; test-4 = refl; write-0 = refl; write-4 = refl; write-4-at = refl; write-15 = refl }
+unfolding listed value littleEndian shapeOf firstBad faultOf faultIn reachBy reachOf readBy readBody readSized readShape readTyped readReached readOf writeSized writeBy writeShape writeOf
+by-wire = record { reach-0 = refl; reach-1 = refl; reach-2 = refl; read-1 = refl; read-2 = refl; read-3 = refl; read-4 = refl; read-4-at = refl; read-4-first = refl; read-4-condition = refl; read-4-condition-at = refl; read-4-zero-at = refl; read-4-letter-at = refl; read-0-texas = refl; test-0-condition = refl; test-4-condition = refl; write-4-condition = refl; write-4-condition-at = refl; write-0-condition = refl; test-0 = refl; test-4 = refl; write-0 = refl; write-4 = refl; write-4-at = refl; write-15 = refl }
 
 -- ---- registering, and a quote
 abbrev gap : List ℕ
@@ -82,15 +101,15 @@ registeredTo (suc n) = registerOf (registeredTo n) n name scale .view
 
 pub record ByBook : Type 0 where
   pub register-0 : registerOf (newView nyse) index name scale .answer ≡ 0
-  pub register-11 : registerOf viewABC index name scale .answer ≡ 11
+  pub register-11 : registerOf (viewABC nyse) index name scale .answer ≡ 11
   pub register-12 : registerOf (registeredTo 8) 8 name scale .answer ≡ 12
   pub register-13 : registerOf (newView nyse) index name 7 .answer ≡ 13
-  pub quote-0 : quoteOf index viewABC .answer ≡ 0
+  pub quote-0 : quoteOf index (viewABC nyse) .answer ≡ 0
   pub quote-5 : quoteOf index (newView nyse) .answer ≡ 5
-  pub quote-8 : quoteOf index (stepsOf viewABC (gap ∷ [])) .answer ≡ 8
-  pub volume-0 : volumeOf index viewABC .answer ≡ 0
+  pub quote-8 : quoteOf index (stepsOf (viewABC nyse) (gap ∷ [])) .answer ≡ 8
+  pub volume-0 : volumeOf index (viewABC nyse) .answer ≡ 0
   pub volume-5 : volumeOf index (newView nyse) .answer ≡ 5
-  pub symbol-0 : toldIn index viewABC .answer ≡ 0
+  pub symbol-0 : toldIn index (viewABC nyse) .answer ≡ 0
   pub symbol-5 : toldIn index (newView nyse) .answer ≡ 5
 
 pub by-book : ByBook
@@ -105,17 +124,17 @@ abbrev Answered : View → List ℕ → ℕ → Type 0
 Answered v s answer = moveOf v s 0 .answer ≡ answer
 
 pub record ByMessage : Type 0 where
-  pub given-0 : Answered viewABC one 0
-  pub given-1 : Answered viewABC [] 1
-  pub given-2 : Answered viewABC small 2
-  pub given-3 : Answered viewABC unknown 3
-  pub given-4 : Answered viewABC (add 1 1001 0 1234500 200) 4
+  pub given-0 : Answered (viewABC nyse) one 0
+  pub given-1 : Answered (viewABC nyse) [] 1
+  pub given-2 : Answered (viewABC nyse) small 2
+  pub given-3 : Answered (viewABC nyse) unknown 3
+  pub given-4 : Answered (viewABC nyse) (add 1 1001 0 1234500 200) 4
   pub given-4-at : offsetBy (reachOf (add 1 1001 0 1234500 200)) nyse (add 1 1001 0 1234500 200) 0 ≡ 32
   pub given-5 : Answered (newView nyse) one 5
-  pub given-6 : Answered viewABC (add 0 1001 buy 1234500 200) 6
-  pub given-7 : Answered viewABC gap 7
-  pub given-8 : Answered (stepsOf viewABC (gap ∷ [])) one 8
-  pub given-9 : Answered viewABC (delete 1 1001) 9
+  pub given-6 : Answered (viewABC nyse) (add 0 1001 buy 1234500 200) 6
+  pub given-7 : Answered (viewABC nyse) gap 7
+  pub given-8 : Answered (stepsOf (viewABC nyse) (gap ∷ [])) one 8
+  pub given-9 : Answered (viewABC nyse) (delete 1 1001) 9
 
 pub by-message : ByMessage
 unfolding value littleEndian shapeOf firstBad faultOf reachBy reachOf readBy readBody readSized readShape readTyped readReached readOf firstWhere insert remove look placeOf foundIn vacancyOf applyTo dealTo nameBad registering.registered ruled enacted meeting actOn meant stepOf moveOf stepsOf
@@ -125,7 +144,7 @@ by-message = record { given-0 = refl; given-1 = refl; given-2 = refl; given-3 = 
 abbrev adds : List (List ℕ)
 adds = tabulate 64 (λ k. add (k + 1) (k + 1) buy 1234500 200)
 
-pub given-10 : Answered (stepsOf viewABC adds) (add 65 65 buy 1234500 200) 10
+pub given-10 : Answered (stepsOf (viewABC nyse) adds) (add 65 65 buy 1234500 200) 10
 unfolding value littleEndian shapeOf firstBad faultOf reachBy reachOf readBy readBody readSized readShape readTyped readReached readOf firstWhere tabulate insert remove look placeOf foundIn vacancyOf applyTo dealTo nameBad registering.registered ruled enacted meeting actOn meant stepOf moveOf stepsOf
 given-10 = refl
 
@@ -146,18 +165,18 @@ abbrev lined : View → Message → (second room : ℕ) → Write
 lined v m second room = lineOf (v .market) (toldIn index v) m zeros 57 second (replicate room 0)
 
 pub record ByPage : Type 0 where
-  pub line-0 : lined viewABC (bought buy) 34200 60 .outcome ≡ done 60
-  pub line-3 : lined viewABC (deletion 125) 34200 60 .outcome ≡ refused 3
-  pub line-4 : lined viewABC (bought 0) 34200 60 .outcome ≡ refused 4
-  pub line-4-at : lined viewABC (bought 0) 34200 60 .offset ≡ 32
+  pub line-0 : lined (viewABC nyse) (bought buy) 34200 60 .outcome ≡ done 60
+  pub line-3 : lined (viewABC nyse) (deletion 125) 34200 60 .outcome ≡ refused 3
+  pub line-4 : lined (viewABC nyse) (bought 0) 34200 60 .outcome ≡ refused 4
+  pub line-4-at : lined (viewABC nyse) (bought 0) 34200 60 .offset ≡ 32
   pub line-5 : lined (newView nyse) (bought buy) 34200 60 .outcome ≡ refused 5
-  pub line-14 : lined viewABC (bought buy) 86400 60 .outcome ≡ refused 14
-  pub line-15 : lined viewABC (bought buy) 34200 59 .outcome ≡ refused 15
-  pub lay-1 : layOf 34200 640 viewABC one 0 0 .answer ≡ 1
-  pub lay-2 : layOf 34200 640 viewABC small 0 0 .answer ≡ 2
-  pub lay-15 : layOf 34200 639 viewABC one 0 0 .answer ≡ 15
-  pub end-0 : laid (closing viewABC index 1) (replicate 10 0) .outcome ≡ done 10
-  pub end-15 : laid (closing viewABC index 1) (replicate 9 0) .outcome ≡ refused 15
+  pub line-14 : lined (viewABC nyse) (bought buy) 86400 60 .outcome ≡ refused 14
+  pub line-15 : lined (viewABC nyse) (bought buy) 34200 59 .outcome ≡ refused 15
+  pub lay-1 : layOf 34200 640 (viewABC nyse) one 0 0 .answer ≡ 1
+  pub lay-2 : layOf 34200 640 (viewABC nyse) small 0 0 .answer ≡ 2
+  pub lay-15 : layOf 34200 639 (viewABC nyse) one 0 0 .answer ≡ 15
+  pub end-0 : laid (closing (viewABC nyse) index 1) (replicate 10 0) .outcome ≡ done 10
+  pub end-15 : laid (closing (viewABC nyse) index 1) (replicate 9 0) .outcome ≡ refused 15
 
 pub by-page : ByPage
 unfolding value littleEndian shapeOf firstBad faultOf faultIn reachBy reachOf readBy readBody readSized readShape readTyped readReached readOf firstWhere insert remove look placeOf foundIn vacancyOf applyTo dealTo nameBad registering.registered registering.toldOf ruled enacted meeting actOn meant stepOf toldIn paddedName tabulate rendered fixed digitsBy digits priced timed hasNoLine laid lineBy lineOf passedText layFrom layOf walkFor walkOf closing endText quoteText quoteOf levelOf fold sumBy

@@ -33,13 +33,13 @@ use Rattle.demands.specs.Reader.{Effect, Registered}
 use Rattle.demands.specs.ByteFeed.{ByteFeed, sent, delivered, Complete, Applied, ClearsDelivered}
 use Rattle.demands.specs.Demand3.{Began, Given}
 use Rattle.demands.specs.Demand3 as began
-use Rattle.demands.specs.Examples.{name, scale, HasABCOn, registered, viewOn, HasABC, viewABC, other, viewABCThenXYZ, viewXYZThenABC, oneAdd, withLosses, quotesAlong, alongLosses, last, pastTheLast, lastLost, inTexas}
+use Rattle.demands.specs.Examples.{name, scale, HasABC, registered, viewABC, other, viewABCThenXYZ, viewXYZThenABC, oneAdd, withLosses, quotesAlong, alongLosses, last, pastTheLast, lastLost, inTexas}
 use Rattle.demands.specs.Messages.{index}
 
-pub has-began : {market : Market} {b : Book} → HasABCOn market b → Began b
+pub has-began : {market : Market} {b : Book} → HasABC market b → Began b
 has-began (registered f s) = began.registers index name scale (began.new f) s
 
-pub has-view : {market : Market} {b : Book} → HasABCOn market b → view b ≡ viewOn market
+pub has-view : {market : Market} {b : Book} → HasABC market b → view b ≡ viewABC market
 has-view (registered f s) = s .obeys (f .wf) .next-view ∙ ap (λ (v : View). registerOf v index name scale .view) (f .new-view)
 
 -- what is left to be seen of a feed
@@ -59,22 +59,21 @@ met v w f x market same p q e d = record {
   clears-delivered = x .clears;
 }
 
-met-by-ABC : {b c : Book} (market : Market) (f : ByteFeed) → Fair (viewOn market) f → HasABCOn market b → HasABCOn market c → Given b c f
-met-by-ABC market f x p q = met (viewOn market) (viewOn market) f x refl (λ i. ((λ y. y), (λ y. y))) (has-began p) (has-began q) (has-view p) (has-view q)
+met-by-ABC : {b c : Book} (market : Market) (f : ByteFeed) → Fair (viewABC market) f → HasABC market b → HasABC market c → Given b c f
+met-by-ABC market f x p q = met (viewABC market) (viewABC market) f x refl (λ i. ((λ y. y), (λ y. y))) (has-began p) (has-began q) (has-view p) (has-view q)
 
 -- by computation
-record AllFair : Type 0 where
-  pub one-add : Fair viewABC oneAdd
-  pub with-losses : Fair viewABC withLosses
-  pub to-two : Fair viewABCThenXYZ withLosses
-  pub past-the-last : Fair viewABC pastTheLast
-  pub last-lost : Fair viewABC lastLost
-  pub in-texas : Fair (viewOn Market.Texas) inTexas
-  pub along : quotesAlong withLosses ≡ alongLosses
+record AllFair (market : Market) : Type 0 where
+  pub one-add : Fair (viewABC market) oneAdd
+  pub with-losses : Fair (viewABC market) withLosses
+  pub to-two : Fair (viewABCThenXYZ market) withLosses
+  pub past-the-last : Fair (viewABC market) pastTheLast
+  pub last-lost : Fair (viewABC market) lastLost
+  pub along : quotesAlong market withLosses ≡ alongLosses
 
-all-fair : AllFair
+all-fair : (market : Market) → AllFair market
 unfolding Complete Applied ClearsDelivered sent quotesAlong delivered quoteOf levelOf bestStep sharesAt fold sumBy listed value littleEndian shapeOf firstBad faultOf reachBy reachOf readBy readBody readSized readShape readTyped readReached readOf firstWhere insert remove look placeOf foundIn vacancyOf applyTo dealTo nameBad registering.registered ruled enacted meeting actOn meant stepOf stepsOf
-all-fair = record {
+all-fair market = record {
   one-add = record { complete = (tt, refl); applied = (tt, refl); clears = tt };
   with-losses = record {
     complete = ((((((tt, refl), refl), refl), refl), refl), refl);
@@ -88,45 +87,48 @@ all-fair = record {
   };
   past-the-last = record { complete = ((((tt, refl), refl), refl), refl); applied = ((((tt, refl), refl), refl), refl); clears = tt };
   last-lost = record { complete = ((((tt, refl), refl), refl), refl); applied = ((((tt, refl), refl), refl), refl); clears = (tt, omega arith) };
-  in-texas = record { complete = (((tt, refl), refl), refl); applied = (((tt, refl), refl), refl); clears = (tt, omega arith) };
   along = refl;
 }
 
 -- what the second reader quotes at each moment of the feed with losses
-pub losses-quoted : quotesAlong withLosses ≡ alongLosses
-losses-quoted = all-fair .along
+pub losses-quoted : (market : Market) → quotesAlong market withLosses ≡ alongLosses
+losses-quoted market = all-fair market .along
 
--- THE PREMISE IS MET, with losses and at number 4,294,967,295
-module _ {b c : Book} (p : HasABC b) (q : HasABC c) where
+-- THE PREMISE IS MET in every market, with losses and at number 4,294,967,295
+module _ {market : Market} {b c : Book} (p : HasABC market b) (q : HasABC market c) where
   pub given-one-add : Given b c oneAdd
-  given-one-add = met-by-ABC Market.Nyse oneAdd (all-fair .one-add) p q
+  given-one-add = met-by-ABC market oneAdd (all-fair market .one-add) p q
 
   pub given-with-losses : Given b c withLosses
-  given-with-losses = met-by-ABC Market.Nyse withLosses (all-fair .with-losses) p q
+  given-with-losses = met-by-ABC market withLosses (all-fair market .with-losses) p q
 
   pub given-past-the-last : Given b c pastTheLast
-  given-past-the-last = met-by-ABC Market.Nyse pastTheLast (all-fair .past-the-last) p q
+  given-past-the-last = met-by-ABC market pastTheLast (all-fair market .past-the-last) p q
 
   pub given-last-lost : Given b c lastLost
-  given-last-lost = met-by-ABC Market.Nyse lastLost (all-fair .last-lost) p q
+  given-last-lost = met-by-ABC market lastLost (all-fair market .last-lost) p q
 
--- and in another market, with conditions that it alone lists
-pub given-in-texas : {b c : Book} → HasABCOn Market.Texas b → HasABCOn Market.Texas c → Given b c inTexas
-given-in-texas = met-by-ABC Market.Texas inTexas (all-fair .in-texas)
+-- and with conditions that one market alone lists
+texas-fair : Fair (viewABC Market.Texas) inTexas
+unfolding Complete Applied ClearsDelivered sent listed value littleEndian shapeOf firstBad faultOf reachBy reachOf readBy readBody readSized readShape readTyped readReached readOf firstWhere insert remove look placeOf foundIn vacancyOf applyTo dealTo nameBad registering.registered ruled enacted meeting actOn meant stepOf stepsOf
+texas-fair = record { complete = (((tt, refl), refl), refl); applied = (((tt, refl), refl), refl); clears = (tt, omega arith) }
+
+pub given-in-texas : {b c : Book} → HasABC Market.Texas b → HasABC Market.Texas c → Given b c inTexas
+given-in-texas = met-by-ABC Market.Texas inTexas texas-fair
 
 -- and with two symbols, registered in either order
-either-order : (i : ℕ) → Registered i viewABCThenXYZ ↔ Registered i viewXYZThenABC
+either-order : (market : Market) (i : ℕ) → Registered i (viewABCThenXYZ market) ↔ Registered i (viewXYZThenABC market)
 unfolding foundIn placeOf vacancyOf firstWhere nameBad registering.registered
-either-order i = go (eqb index i) (eqb other i) refl refl
+either-order market i = go (eqb index i) (eqb other i) refl refl
   where
-    go : (t u : Bool) → eqb index i ≡ t → eqb other i ≡ u → Registered i viewABCThenXYZ ↔ Registered i viewXYZThenABC
+    go : (t u : Bool) → eqb index i ≡ t → eqb other i ≡ u → Registered i (viewABCThenXYZ market) ↔ Registered i (viewXYZThenABC market)
     go true true e d = rw (e, d) ((λ y. tt), (λ y. tt))
     go true false e d = rw (e, d) ((λ y. tt), (λ y. tt))
     go false true e d = rw (e, d) ((λ y. tt), (λ y. tt))
     go false false e d = rw (e, d) ((λ y. y), (λ y. y))
 
-pub given-in-either-order : {b c : Book} → Began b → Began c → view b ≡ viewABCThenXYZ → view c ≡ viewXYZThenABC → Given b c withLosses
-given-in-either-order = met viewABCThenXYZ viewXYZThenABC withLosses (all-fair .to-two) refl either-order
+pub given-in-either-order : (market : Market) {b c : Book} → Began b → Began c → view b ≡ viewABCThenXYZ market → view c ≡ viewXYZThenABC market → Given b c withLosses
+given-in-either-order market = met (viewABCThenXYZ market) (viewXYZThenABC market) withLosses (all-fair market .to-two) refl (either-order market)
 
 -- Once the last number is applied every further numbered message answers 6, so that a feed that is given goes on with a clear, and nothing can be lost before it.
 pub after-the-last : (s : Symbol) (i n : ℕ) (e : Effect) → s .entry .standing .stale ≡ false → s .entry .standing .expected ≡ last + 1 → n ≤ last → meeting s (numbered i n e) .answer ≡ 6
@@ -136,7 +138,7 @@ after-the-last s i n e fresh turn h = rw (fresh, lt-ltb n (s .entry .standing .e
 -- ---- such a state there is, of every market
 pub record WithABC (market : Market) : Type 0 where
   pub book : Book
-  pub has : HasABCOn market book
+  pub has : HasABC market book
 
 registers-ABC : (market : Market) (b : Book) → Fresh market b → WithABC market
 unfolding firstWhere nameBad

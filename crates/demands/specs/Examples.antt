@@ -1,4 +1,4 @@
--- Feeds that demand 3 takes as given, as bytes: one with losses, two at the last number that a message can carry, and one of another market.
+-- Feeds that demand 3 takes as given, as bytes: one with losses, two at the last number that a message can carry, and one that Texas alone takes.
 use Prim.Native.Nat.{ℕ}
 use mathlib.Core.List.{List, [], _∷_}
 use Rattle.wire.specs.declared.markets.Market.{Market}
@@ -11,7 +11,7 @@ use Rattle.book.specs.declared.Book.{Book}
 use Rattle.book.specs.declared.Done.{Done}
 use Rattle.book.specs.declared.quote.Quote.{Quote}
 use Rattle.demands.specs.ByteFeed.{ByteFeed, begins, hears, loses, delivered}
-use Rattle.demands.specs.Messages.{index, buy, sell, add, delete, executeOn, execute, clear, shows, no-level, _at_}
+use Rattle.demands.specs.Messages.{index, buy, sell, add, delete, executeWith, execute, clear, shows, no-level, _at_}
 
 -- a new state of a market with ABC registered, scale 4
 abbrev pub name : List ℕ
@@ -20,18 +20,11 @@ name = 65 ∷ 66 ∷ 67 ∷ []
 abbrev pub scale : ℕ
 scale = 4
 
-pub data HasABCOn (market : Market) : Book → Type 0 where
-  registered : {b : Book} {r : Done} → Fresh market b → Steps b (registerOf (view b) index name scale) r → HasABCOn market (r .book)
+pub data HasABC (market : Market) : Book → Type 0 where
+  registered : {b : Book} {r : Done} → Fresh market b → Steps b (registerOf (view b) index name scale) r → HasABC market (r .book)
 
-abbrev pub viewOn : Market → View
-viewOn market = registerOf (newView market) index name scale .view
-
--- NYSE's, unless another one is named
-abbrev pub HasABC : Book → Type 0
-HasABC = HasABCOn Market.Nyse
-
-abbrev pub viewABC : View
-viewABC = viewOn Market.Nyse
+abbrev pub viewABC : Market → View
+viewABC market = registerOf (newView market) index name scale .view
 
 -- the same with XYZ, in the two orders of registering
 abbrev pub other : ℕ
@@ -40,11 +33,11 @@ other = 8
 abbrev pub otherName : List ℕ
 otherName = 88 ∷ 89 ∷ 90 ∷ []
 
-abbrev pub viewABCThenXYZ : View
-viewABCThenXYZ = registerOf viewABC other otherName scale .view
+abbrev pub viewABCThenXYZ : Market → View
+viewABCThenXYZ market = registerOf (viewABC market) other otherName scale .view
 
-abbrev pub viewXYZThenABC : View
-viewXYZThenABC = registerOf (registerOf (newView Market.Nyse) other otherName scale .view) index name scale .view
+abbrev pub viewXYZThenABC : Market → View
+viewXYZThenABC market = registerOf (registerOf (newView market) other otherName scale .view) index name scale .view
 
 -- one add, heard
 abbrev pub oneAdd : ByteFeed
@@ -62,10 +55,10 @@ withLosses =
     (delete 10 1003)
 
 -- what the second reader quotes of ABC at each moment, the last one outermost
-unfoldable pub quotesAlong : ByteFeed → List Quote
-quotesAlong begins = []
-quotesAlong (hears f m) = quoteOf index (stepsOf viewABC (delivered (hears f m))) ∷ quotesAlong f
-quotesAlong (loses f m) = quoteOf index (stepsOf viewABC (delivered (loses f m))) ∷ quotesAlong f
+unfoldable pub quotesAlong : Market → ByteFeed → List Quote
+quotesAlong market begins = []
+quotesAlong market (hears f m) = quoteOf index (stepsOf (viewABC market) (delivered (hears f m))) ∷ quotesAlong market f
+quotesAlong market (loses f m) = quoteOf index (stepsOf (viewABC market) (delivered (loses f m))) ∷ quotesAlong market f
 
 abbrev pub alongLosses : List Quote
 alongLosses =
@@ -89,7 +82,7 @@ lastLost = hears (hears (loses (hears begins (clear last)) (add last 1001 buy 12
 
 -- an execution with the conditions `C`, `7`, a space and `V`: cash, qualified contingent and contingent, which Texas alone lists
 abbrev pub inCash : (number order trade price volume : ℕ) → List ℕ
-inCash = executeOn 67 55 32 86
+inCash = executeWith 67 55 32 86
 
 -- number 2 is lost, and an execution in cash shows it
 abbrev pub inTexas : ByteFeed

@@ -28,13 +28,13 @@ abbrev pub delete : (number order : ℕ) → List ℕ
 delete number order = fieldBytes ((2, 25) ∷ (2, 102) ∷ (4, 125) ∷ (4, index) ∷ (4, number) ∷ (8, order) ∷ (1, 0) ∷ [])
 
 -- printed under a trade number, with these conditions
-abbrev pub executeOn : (settlement exemption hours detail : ℕ) (number order trade price volume : ℕ) → List ℕ
-executeOn settlement exemption hours detail number order trade price volume =
+abbrev pub executeWith : (settlement exemption hours detail : ℕ) (number order trade price volume : ℕ) → List ℕ
+executeWith settlement exemption hours detail number order trade price volume =
     fieldBytes ((2, 42) ∷ (2, 103) ∷ (4, 125) ∷ (4, index) ∷ (4, number) ∷ (8, order) ∷ (4, trade) ∷ (4, price) ∷ (4, volume) ∷ (1, 1) ∷ (1, 0) ∷ (1, settlement) ∷ (1, exemption) ∷ (1, hours) ∷ (1, detail) ∷ [])
 
 -- a regular sale: `@` and three spaces
 abbrev pub execute : (number order trade price volume : ℕ) → List ℕ
-execute = executeOn 64 32 32 32
+execute = executeWith 64 32 32 32
 
 abbrev pub replace : (number order new-order side price volume : ℕ) → List ℕ
 replace number order new-order side price volume =

@@ -75,7 +75,7 @@ rest-all b stream from place second before = record {
 
 -- past the last second of the day
 pub too-late : (b : Book) (stream : List ℕ) (from place second : ℕ) (before : List ℕ) → lastSecond < second → Lays b stream from place second before (record { book = b; at = from; place = place; count = 0; answer = 14 }) before
-too-late b stream from place second before h = record { late = λ l. (refl, refl); beyond = refl; kept = λ e. refl; obeys = λ l. absurd (omega (arith, h, l)) }
+too-late b stream from place second before h = record { late = λ l. (refl, refl); beyond = refl; kept = λ e. refl; market = refl; obeys = λ l. absurd (omega (arith, h, l)) }
 
 module _ {b₀ : Book} {stream : List ℕ} {from place second : ℕ} {before : List ℕ} {b : Book} {here p n : ℕ} {out : List ℕ} (l : Rest b₀ stream from place second before b here p n out) (r : Moved) (m : Moves b stream here r) where
   stops-by : (x : Outcome ℕ) → reachOf (drop here stream) ≡ x → r .stops ≡ stopping x
@@ -90,6 +90,7 @@ module _ {b₀ : Book} {stream : List ℕ} {from place second : ℕ} {before : L
     late = λ z. absurd (omega (arith, h, z));
     beyond = ap (drop n) (l .front .shown) ∙ drop-at (l .text) (drop n before) n (l .front .long);
     kept = l .still;
+    market = l .same-market;
     obeys = λ z w. record {
       wf = l .sound w;
       next-view = ap (λ (x : Laying). x .sheet .view) (e w);

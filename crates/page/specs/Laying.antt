@@ -56,9 +56,10 @@ pub record Sets (x : Laying) (before : List ℕ) (r : Laid) (after : List ℕ) :
   pub answer : r .answer ≡ x .answer
   pub out : after ≡ x .sheet .text ++ drop (length (x .sheet .text)) before
 
--- past the last second of the day nothing is laid; bytes beyond the count, and a state that met no message, stay whatever they were
+-- past the last second of the day nothing is laid; bytes beyond the count, the market, and a state that met no message, stay whatever they were
 pub record Lays (b : Book) (part : List ℕ) (from place second : ℕ) (before : List ℕ) (r : Laid) (after : List ℕ) : Type 0 where
   pub late : lastSecond < second → (r ≡ record { book = b; at = from; place = place; count = 0; answer = 14 }) × (after ≡ before)
   pub beyond : drop (r .count) after ≡ drop (r .count) before
   pub kept : r .at ≡ from → r .book ≡ b
+  pub market : view (r .book) .market ≡ view b .market
   pub obeys : second ≤ lastSecond → Wf b → Sets (layOf second (length before) (view b) part from place) before r after

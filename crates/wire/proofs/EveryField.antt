@@ -1,5 +1,5 @@
 -- The bad fields type by type, with document 01's own numbers: the first bad field of a message is the first bad one of the fields that its type has, where the table
--- has them. By computation, for any values of the fields, and for any array beside it, of which a 103 and a 110 have the first four bytes and the others none.
+-- has them. By computation, for any values of the fields and any array beside it: of a 103 and a 110 its first four bytes are conditions, and of no other type is it tested.
 use mathlib.Core.Bool.{false, cond, not}
 use mathlib.Core.List.{List, [], _∷_}
 use mathlib.Core.Path.{_≡_, refl}

@@ -1,4 +1,4 @@
--- What was read has no bad field: reading refuses one, and what it hands back has the type and the fields that were tested.
+-- What was read has no bad field: reading refuses one, and what it hands back has the type, the fields and the array that were tested.
 use mathlib.Core.List.{List}
 use mathlib.Core.Path.{_≡_, sym, ap, _∙_}
 use Prim.Native.Nat.{ℕ}

@@ -1,17 +1,28 @@
--- The lists of conditions once more: for each market and position as plain bytes, by computation; and a code is on a list where an entry has it and holds for the market.
+-- The markets and their lists once more, with the sources' own numbers and bytes, by computation; and a code is on a list where an entry has it and holds for the market.
 use mathlib.Core.Bool.{Bool, true, false, cond, _&&_}
 use mathlib.Core.List.{List, [], _∷_}
 use mathlib.Core.Path.{_≡_, refl, sym, ap, _∙_}
 use Prim.Native.Nat.{ℕ, _≤_}
+use native.Mathlib.Omega.{arith}
 use lib.Dec.{eqb}
 use lib.ListN.{List·getD-eq-default}
-use Rattle.wire.specs.Markets.{marketNumber, namedOf, Code, codesOf, member, lists, listed}
+use borrow.Author.Tests.{eqb-true}
+use Rattle.wire.specs.Markets.{marketNumber, everyMarket, namedAmong, namedOf, Code, codesOf, member, lists, listed}
 use Rattle.wire.specs.declared.markets.Market.{Market}
 use Rattle.wire.specs.declared.markets.Market.the-variants.{Nyse, Arca, American, National, Texas}
 use Rattle.wire.specs.declared.markets.Named.{Named}
 
--- ---- every market has its own number
-pub named-again : (m : Market) → namedOf (marketNumber m) ≡ Named.Market m
+-- ---- the markets: each has its number, and no other number names one
+pub record EveryName : Type 0 where
+  pub nyse : namedOf 1 ≡ Named.Market Nyse
+  pub arca : namedOf 3 ≡ Named.Market Arca
+  pub american : namedOf 9 ≡ Named.Market American
+  pub national : namedOf 10 ≡ Named.Market National
+  pub texas : namedOf 11 ≡ Named.Market Texas
+  pub again : (market : Market) → namedOf (marketNumber market) ≡ Named.Market market
+  pub only : (n : ℕ) (market : Market) → namedOf n ≡ Named.Market market → n ≡ marketNumber market
+
+named-again : (market : Market) → namedOf (marketNumber market) ≡ Named.Market market
 unfolding namedOf
 named-again Nyse = refl
 named-again Arca = refl
@@ -19,17 +30,29 @@ named-again American = refl
 named-again National = refl
 named-again Texas = refl
 
--- ---- what a market lists, position by position: `@` is 64, `C` 67, a space 32, `F` 70, `O` 79, `5` 53, `6` 54, `7` 55, `T` 84, `U` 85, `Z` 90, `I` 73, `V` 86
-pub record Lists (m : Market) (first second third fourth : List ℕ) : Type 0 where
-  pub one : (c : ℕ) → listed m 0 c ≡ member c first
-  pub two : (c : ℕ) → listed m 1 c ≡ member c second
-  pub three : (c : ℕ) → listed m 2 c ≡ member c third
-  pub four : (c : ℕ) → listed m 3 c ≡ member c fourth
-  pub no-more : (position c : ℕ) → 4 ≤ position → listed m position c ≡ false
+named-only : (markets : List Market) (n : ℕ) (market : Market) → namedAmong markets n ≡ Named.Market market → n ≡ marketNumber market
+named-only [] n market e = absurd (let z : _≡_ {A = ℕ} 0 1 = cc in omega arith)
+named-only (k ∷ ks) n market e = go (eqb n (marketNumber k)) refl (named-only ks n market) e
+  where
+    go : (same : Bool) → eqb n (marketNumber k) ≡ same → (namedAmong ks n ≡ Named.Market market → n ≡ marketNumber market)
+        → cond same (Named.Market k) (namedAmong ks n) ≡ Named.Market market → n ≡ marketNumber market
+    go true q ih p = let is : k ≡ market = cc in eqb-true n (marketNumber k) q ∙ ap marketNumber is
+    go false q ih p = ih p
 
-pub none-beyond : (m : Market) (position c : ℕ) → 4 ≤ position → listed m position c ≡ false
+pub every-name : EveryName
+unfolding namedOf
+every-name = record { nyse = refl; arca = refl; american = refl; national = refl; texas = refl; again = named-again; only = λ n market. named-only everyMarket n market }
+
+-- ---- what a market lists, position by position: `@` is 64, `C` 67, a space 32, `F` 70, `O` 79, `5` 53, `6` 54, `7` 55, `T` 84, `U` 85, `Z` 90, `I` 73, `V` 86
+pub record Lists (market : Market) (first second third fourth : List ℕ) : Type 0 where
+  pub one : (c : ℕ) → listed market 0 c ≡ member c first
+  pub two : (c : ℕ) → listed market 1 c ≡ member c second
+  pub three : (c : ℕ) → listed market 2 c ≡ member c third
+  pub four : (c : ℕ) → listed market 3 c ≡ member c fourth
+
+pub none-beyond : (market : Market) (position c : ℕ) → 4 ≤ position → listed market position c ≡ false
 unfolding listed
-none-beyond m position c h = ap (λ (l : List Code). member c (codesOf m l)) (List·getD-eq-default lists [] h)
+none-beyond market position c h = ap (λ (l : List Code). member c (codesOf market l)) (List·getD-eq-default lists [] h)
 
 pub record EveryList : Type 0 where
   pub nyse : Lists Nyse (64 ∷ []) (32 ∷ 70 ∷ 79 ∷ 53 ∷ 54 ∷ []) (32 ∷ 84 ∷ 85 ∷ 90 ∷ []) (32 ∷ 73 ∷ [])
@@ -37,38 +60,40 @@ pub record EveryList : Type 0 where
   pub american : Lists American (64 ∷ []) (32 ∷ 70 ∷ 79 ∷ 53 ∷ 54 ∷ []) (32 ∷ 84 ∷ 85 ∷ 90 ∷ []) (32 ∷ 73 ∷ [])
   pub national : Lists National (64 ∷ []) (32 ∷ 70 ∷ []) (32 ∷ 84 ∷ 85 ∷ 90 ∷ []) (32 ∷ 73 ∷ [])
   pub texas : Lists Texas (64 ∷ 67 ∷ []) (32 ∷ 70 ∷ 55 ∷ []) (32 ∷ 84 ∷ 85 ∷ 90 ∷ []) (32 ∷ 73 ∷ 86 ∷ [])
+  pub no-more : (market : Market) (position c : ℕ) → 4 ≤ position → listed market position c ≡ false
 
 pub every-list : EveryList
 unfolding listed
 every-list = record {
-  nyse = record { one = λ c. refl; two = λ c. refl; three = λ c. refl; four = λ c. refl; no-more = none-beyond Nyse };
-  arca = record { one = λ c. refl; two = λ c. refl; three = λ c. refl; four = λ c. refl; no-more = none-beyond Arca };
-  american = record { one = λ c. refl; two = λ c. refl; three = λ c. refl; four = λ c. refl; no-more = none-beyond American };
-  national = record { one = λ c. refl; two = λ c. refl; three = λ c. refl; four = λ c. refl; no-more = none-beyond National };
-  texas = record { one = λ c. refl; two = λ c. refl; three = λ c. refl; four = λ c. refl; no-more = none-beyond Texas };
+  nyse = record { one = λ c. refl; two = λ c. refl; three = λ c. refl; four = λ c. refl };
+  arca = record { one = λ c. refl; two = λ c. refl; three = λ c. refl; four = λ c. refl };
+  american = record { one = λ c. refl; two = λ c. refl; three = λ c. refl; four = λ c. refl };
+  national = record { one = λ c. refl; two = λ c. refl; three = λ c. refl; four = λ c. refl };
+  texas = record { one = λ c. refl; two = λ c. refl; three = λ c. refl; four = λ c. refl };
+  no-more = none-beyond;
 }
 
--- ---- an entry decides
-abbrev pub among : Market → ℕ → List Code → Bool
-among m c [] = false
-among m c (k ∷ ks) = cond (eqb c (k .code) && k .markets m) true (among m c ks)
+-- ---- the entry of a code decides
+abbrev onList : Market → ℕ → List Code → Bool
+onList market c [] = false
+onList market c (k ∷ ks) = cond (eqb c (k .code) && k .markets market) true (onList market c ks)
 
-pub member-among : (m : Market) (c : ℕ) (ks : List Code) → member c (codesOf m ks) ≡ among m c ks
-member-among m c [] = refl
-member-among m c (k ∷ ks) = go (k .markets m) (eqb c (k .code)) refl (member-among m c ks)
+pub member-on-list : (market : Market) (c : ℕ) (ks : List Code) → member c (codesOf market ks) ≡ onList market c ks
+member-on-list market c [] = refl
+member-on-list market c (k ∷ ks) = go (k .markets market) (eqb c (k .code)) refl (member-on-list market c ks)
   where
-    go : (held same : Bool) → eqb c (k .code) ≡ same → member c (codesOf m ks) ≡ among m c ks
-        → member c (cond held (k .code ∷ codesOf m ks) (codesOf m ks)) ≡ cond (same && held) true (among m c ks)
+    go : (held same : Bool) → eqb c (k .code) ≡ same → member c (codesOf market ks) ≡ onList market c ks
+        → member c (cond held (k .code ∷ codesOf market ks) (codesOf market ks)) ≡ cond (same && held) true (onList market c ks)
     go true true e ih = rw e
     go true false e ih = rw e ih
     go false true e ih = ih
     go false false e ih = ih
 
--- the byte of an arm
-pub at-code : (m : Market) (ks : List Code) (c k : ℕ) → c ≡ k → among m k ks ≡ member c (codesOf m ks)
-at-code m ks c k e = sym (member-among m c ks ∙ ap (λ (x : ℕ). among m x ks) e)
+-- of a byte that is known
+pub entry-decides : (market : Market) (ks : List Code) (c k : ℕ) → c ≡ k → onList market k ks ≡ member c (codesOf market ks)
+entry-decides market ks c k e = sym (member-on-list market c ks ∙ ap (λ (x : ℕ). onList market x ks) e)
 
--- that a market alone decides
-pub by-market : (held : Bool) → held ≡ cond held true false
-by-market false = refl
-by-market true = refl
+-- and of one that some markets alone list
+pub held-alone : (held : Bool) → held ≡ cond held true false
+held-alone false = refl
+held-alone true = refl

@@ -107,7 +107,7 @@ pub record Check : Type 0 where
   pub at : ℕ
   pub bad : Bool
 
--- a condition that its market does not list
+-- a condition is bad where its market does not list it
 abbrev pub conditionAt : ℕ → Market → ℕ → ℕ → Check
 conditionAt at market position c = record { at = at; bad = not (listed market position c) }
 

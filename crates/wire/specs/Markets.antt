@@ -16,13 +16,16 @@ marketNumber American = 9
 marketNumber National = 10
 marketNumber Texas = 11
 
+abbrev pub everyMarket : List Market
+everyMarket = Nyse ∷ Arca ∷ American ∷ National ∷ Texas ∷ []
+
 -- the market of a number, among these
 abbrev pub namedAmong : List Market → ℕ → Named
 namedAmong [] n = Named.Unknown
-namedAmong (m ∷ ms) n = cond (eqb n (marketNumber m)) (Named.Market m) (namedAmong ms n)
+namedAmong (market ∷ markets) n = cond (eqb n (marketNumber market)) (Named.Market market) (namedAmong markets n)
 
 unfoldable pub namedOf : ℕ → Named
-namedOf n = namedAmong (Nyse ∷ Arca ∷ American ∷ National ∷ Texas ∷ []) n
+namedOf n = namedAmong everyMarket n
 
 -- ---- the lists
 
@@ -47,7 +50,7 @@ onArcaAmericanNyse Texas = false
 
 -- listed for all, for these three, and for Texas alone
 abbrev pub everywhere : ℕ → Code
-everywhere c = record { code = c; markets = λ m. true }
+everywhere c = record { code = c; markets = λ market. true }
 
 abbrev pub arcaAmericanNyse : ℕ → Code
 arcaAmericanNyse c = record { code = c; markets = onArcaAmericanNyse }
@@ -73,8 +76,8 @@ detail = everywhere 32 ∷ everywhere 73 ∷ texas 86 ∷ []
 
 -- the codes of a list that a market has
 abbrev pub codesOf : Market → List Code → List ℕ
-codesOf m [] = []
-codesOf m (k ∷ ks) = cond (k .markets m) (k .code ∷ codesOf m ks) (codesOf m ks)
+codesOf market [] = []
+codesOf market (k ∷ ks) = cond (k .markets market) (k .code ∷ codesOf market ks) (codesOf market ks)
 
 abbrev pub member : ℕ → List ℕ → Bool
 member c [] = false
@@ -86,4 +89,4 @@ lists = settlement ∷ exemption ∷ hours ∷ detail ∷ []
 
 -- does the market list the code at this position?
 unfoldable pub listed : Market → ℕ → ℕ → Bool
-listed m position c = member c (codesOf m (getD lists position []))
+listed market position c = member c (codesOf market (getD lists position []))

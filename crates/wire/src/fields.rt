@@ -11,9 +11,8 @@ use crate::markets::condition_listed;
 use crate::table::Layout;
 ghost use mathlib.Core.Path.{_≡_};
 ghost use Prim.Native.Nat.{_+_, _^_, _≤_, _<_};
-ghost use mathlib.Core.Bool.{true, not};
+ghost use mathlib.Core.Bool.{true};
 ghost use lib.ListN.{length};
-ghost use Rattle.wire.specs.Markets.{listed};
 ghost use Rattle.wire.specs.Fields.{Sane, fieldsAt, arrayOf, sideBad, volumeBad, conditionsAt, firstBad, faultOf, endsOf, valuesOf, valuesWith};
 
 // A second has so many nanoseconds.
@@ -96,28 +95,19 @@ fn first_unlisted(market: Market, at: usize, plain: [u8; PLAIN]) -> Fault
     requires { ⌜ at + 3 < 2 ^ 64 ⌝ }
     ensures { λ r. ⌜ r ≡ firstBad (conditionsAt true at market plain) ⌝ }
 {
-    if unlisted(market, 0, plain[0]) {
+    if !condition_listed(market, 0, plain[0]) {
         return Fault::At(at);
     }
-    if unlisted(market, 1, plain[1]) {
+    if !condition_listed(market, 1, plain[1]) {
         return Fault::At(at + 1);
     }
-    if unlisted(market, 2, plain[2]) {
+    if !condition_listed(market, 2, plain[2]) {
         return Fault::At(at + 2);
     }
-    if unlisted(market, 3, plain[3]) {
+    if !condition_listed(market, 3, plain[3]) {
         return Fault::At(at + 3);
     }
     Fault::Nothing
-}
-
-fn unlisted(market: Market, position: usize, code: u8) -> bool
-    ensures { λ r. ⌜ r ≡ not (listed market position code) ⌝ }
-{
-    if condition_listed(market, position, code) {
-        return false;
-    }
-    true
 }
 
 fn volume_bad(positive: bool, volume: u32) -> bool

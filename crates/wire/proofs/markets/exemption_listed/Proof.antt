@@ -3,7 +3,7 @@ use mathlib.Core.Path.{sym, _∙_}
 use borrow.Author.Needs.{needs}
 use borrow.Author.Tests.{ne-eqb}
 use Rattle.wire.specs.Markets.{exemption}
-use Rattle.wire.proofs.Listed.{member-among, at-code, by-market}
+use Rattle.wire.proofs.Listed.{member-on-list, entry-decides, held-alone}
 use Rattle.wire.proofs.markets.exemption_listed.Statement.{statement}
 use Rattle.wire.proofs.markets.exemption_listed.Tie as tie
 
@@ -20,25 +20,25 @@ on-texas-requires : tie.Need-on-texas-requires
 on-texas-requires c κs = search needs
 
 returns : tie.Need-returns
-returns c = at-code (c .before .args .market) exemption _ _ (c .match .keys1)
+returns c = entry-decides (c .before .args .market) exemption _ _ (c .match .keys1)
 
 returns-2 : tie.Need-returns-2
-returns-2 c = at-code (c .before .args .market) exemption _ _ (c .match .keys2)
+returns-2 c = entry-decides (c .before .args .market) exemption _ _ (c .match .keys2)
 
 returns-3 : tie.Need-returns-3
-returns-3 c = c .on-arca-american-nyse .ensures ∙ by-market _ ∙ at-code (c .before .before .args .market) exemption _ _ (c .before .match .keys3)
+returns-3 c = c .on-arca-american-nyse .ensures ∙ held-alone _ ∙ entry-decides (c .before .before .args .market) exemption _ _ (c .before .match .keys3)
 
 returns-4 : tie.Need-returns-4
-returns-4 c = c .on-arca-american-nyse2 .ensures ∙ by-market _ ∙ at-code (c .before .before .args .market) exemption _ _ (c .before .match .keys4)
+returns-4 c = c .on-arca-american-nyse2 .ensures ∙ held-alone _ ∙ entry-decides (c .before .before .args .market) exemption _ _ (c .before .match .keys4)
 
 returns-5 : tie.Need-returns-5
-returns-5 c = c .on-arca-american-nyse3 .ensures ∙ by-market _ ∙ at-code (c .before .before .args .market) exemption _ _ (c .before .match .keys5)
+returns-5 c = c .on-arca-american-nyse3 .ensures ∙ held-alone _ ∙ entry-decides (c .before .before .args .market) exemption _ _ (c .before .match .keys5)
 
 returns-6 : tie.Need-returns-6
-returns-6 c = c .on-texas .ensures ∙ by-market _ ∙ at-code (c .before .before .args .market) exemption _ _ (c .before .match .keys6)
+returns-6 c = c .on-texas .ensures ∙ held-alone _ ∙ entry-decides (c .before .before .args .market) exemption _ _ (c .before .match .keys6)
 
 returns-7 : tie.Need-returns-7
-returns-7 c = let r = c .match .rest in sym (member-among (c .before .args .market) (c .before .args .code) exemption ∙ simp (ne-eqb _ _ (r .0 .0 .0 .0 .0 .1), ne-eqb _ _ (r .0 .0 .0 .0 .1), ne-eqb _ _ (r .0 .0 .0 .1), ne-eqb _ _ (r .0 .0 .1), ne-eqb _ _ (r .0 .1), ne-eqb _ _ (r .1)))
+returns-7 c = let r = c .match .rest in sym (member-on-list (c .before .args .market) (c .before .args .code) exemption ∙ simp (ne-eqb _ _ (r .0 .0 .0 .0 .0 .1), ne-eqb _ _ (r .0 .0 .0 .0 .1), ne-eqb _ _ (r .0 .0 .0 .1), ne-eqb _ _ (r .0 .0 .1), ne-eqb _ _ (r .0 .1), ne-eqb _ _ (r .1)))
 
 pub exemption-listed-spec : {M : Type 1} → statement M
 exemption-listed-spec =
