@@ -4,7 +4,7 @@ use mathlib.Core.Option.{Option, none}
 use mathlib.Core.Path.{_≡_, refl, ap}
 use Prim.Native.Nat.{ℕ}
 use lib.ListN.{getD}
-use Rattle.wire.specs.declared.markets.Market.{Market}
+use Rattle.markets.specs.declared.Market.{Market}
 use Rattle.places.specs.Places.{symbols, tabulate, firstWhere}
 use Rattle.symbols.specs.State.{Entry, placeOf, foundIn, nobody}
 use Rattle.symbols.proofs.Entries.{nobody-sound, nobody-there}

@@ -4,7 +4,7 @@ use mathlib.Core.Option.{Option, none, some, Option·map}
 use mathlib.Core.Path.{_≡_}
 use Prim.Native.Nat.{ℕ, _<_}
 use lib.ListN.{getD, replicate}
-use Rattle.wire.specs.declared.markets.Market.{Market}
+use Rattle.markets.specs.declared.Market.{Market}
 use Rattle.places.specs.Places.{symbols, tabulate}
 use Rattle.symbols.specs.State as symbols-room
 use Rattle.symbols.specs.State.{Entry, entries, placeOf, foundIn, nobody}

@@ -6,7 +6,7 @@ use mathlib.Core.Path.{_≡_}
 use lib.ListN.{length, take, drop}
 use Rattle.wire.specs.Outcome.{Outcome, done, refused, numberOf}
 use Rattle.wire.specs.Reading.{reachOf, readOf}
-use Rattle.wire.specs.declared.markets.Market.{Market}
+use Rattle.markets.specs.declared.Market.{Market}
 use Rattle.book.specs.State.{View, Next, view, Wf}
 use Rattle.book.specs.Step.{refusing, stepIn}
 use Rattle.book.specs.Promises.{unchanging, Obeys}

@@ -9,6 +9,7 @@ mod step;
 mod store;
 mod walk;
 
+use markets::Market;
 use orders::Orders;
 pub use quote::Quote;
 pub use quote::Volume;
@@ -16,7 +17,6 @@ use record::Record;
 use symbols::Symbols;
 pub use walk::Moved;
 pub use walk::Ran;
-use wire::Market;
 ghost use mathlib.Core.Path.{_≡_};
 ghost use Rattle.book.specs.State.{view, Fresh};
 

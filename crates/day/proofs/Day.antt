@@ -3,10 +3,10 @@ use mathlib.Core.List.{List, [], _∷_}
 use mathlib.Core.Path.{_≡_, refl, ap, _∙_}
 use Rattle.wire.specs.Bytes.{value, littleEndian}
 use Rattle.wire.specs.Table.{shapeOf}
-use Rattle.wire.specs.Markets.{listed}
+use Rattle.markets.specs.Conditions.{listed}
 use Rattle.wire.specs.Fields.{firstBad, faultOf}
 use Rattle.wire.specs.Reading.{reachBy, reachOf, readBy, readBody, readSized, readShape, readTyped, readReached, readOf}
-use Rattle.wire.specs.declared.markets.Market.{Market}
+use Rattle.markets.specs.declared.Market.{Market}
 use Rattle.places.specs.Places.{firstWhere, fold, sumBy, insert, remove, look, tabulate}
 use Rattle.symbols.specs.State.{placeOf, foundIn, vacancyOf, paddedName}
 use Rattle.symbols.specs.Registering.{nameBad, registered, toldOf}

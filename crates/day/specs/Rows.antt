@@ -6,7 +6,7 @@ use lib.ListN.{length, take, drop}
 use Rattle.wire.specs.Outcome.{done, only}
 use Rattle.wire.specs.Reading.{reachOf, readAs, readOf}
 use Rattle.wire.specs.Writing.{leaving}
-use Rattle.wire.specs.declared.markets.Market.{Market}
+use Rattle.markets.specs.declared.Market.{Market}
 use Rattle.book.specs.State.{View, view, Wf}
 use Rattle.book.specs.Quote.{noQuote, quoteOf}
 use Rattle.book.specs.Walk.{landing, moveOf, stepsOf, Moves}

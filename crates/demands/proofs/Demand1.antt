@@ -17,7 +17,7 @@ use Rattle.wire.specs.Message.{faultIn, badFieldOf}
 use Rattle.wire.specs.FirstBad.{Locates}
 use Rattle.wire.specs.declared.Fault.{Fault}
 use Rattle.wire.specs.declared.Message.{Message}
-use Rattle.wire.specs.declared.markets.Market.{Market}
+use Rattle.markets.specs.declared.Market.{Market}
 use Rattle.wire.proofs.Cases.{done-is-not-refused, reached, reach-short, reach-small, reach-beyond, reach-size}
 use Rattle.wire.proofs.Offsets.{read-locates, field-locates, write-locates}
 use Rattle.wire.proofs.Refusing.{reach-refused, read-refused, read-zeros, reached-refused, write-refused, write-untouched, write-fills}

@@ -10,7 +10,7 @@ use Rattle.wire.specs.Outcome.{done}
 use Rattle.wire.specs.Reading.{readOf}
 use Rattle.wire.specs.declared.Head.{Head}
 use Rattle.wire.specs.declared.Message.{Message}
-use Rattle.wire.specs.declared.markets.Market.{Market}
+use Rattle.markets.specs.declared.Market.{Market}
 use Rattle.wire.proofs.RoundTrip.{read-what-was-written, write-what-was-read}
 use Rattle.book.specs.State.{Symbol, View, Next, view, symbolIn, liveIn}
 use Rattle.book.specs.Quote.{quoted, quoteOf, sideOf}

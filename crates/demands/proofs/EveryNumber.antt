@@ -5,14 +5,14 @@ use Prim.Native.Nat.{ℕ, zero, suc, _+_}
 use lib.ListN.{replicate}
 use Rattle.wire.specs.Outcome.{done, refused, numberOf, only, badAt}
 use Rattle.wire.specs.Bytes.{value, littleEndian, plainRoom, paddedPlain}
-use Rattle.wire.specs.Markets.{listed}
+use Rattle.markets.specs.Conditions.{listed}
 use Rattle.wire.specs.Table.{shapeOf}
 use Rattle.wire.specs.Fields.{firstBad, faultOf}
 use Rattle.wire.specs.Reading.{reachBy, reachOf, readBy, readBody, readSized, readShape, readTyped, readReached, readOf}
 use Rattle.wire.specs.Writing.{Write, writeSized, writeBy, writeShape, writeOf}
 use Rattle.wire.specs.Message.{faultIn, badFieldOf}
 use Rattle.wire.specs.declared.Message.{Message}
-use Rattle.wire.specs.declared.markets.Market.{Market}
+use Rattle.markets.specs.declared.Market.{Market}
 use Rattle.feed.specs.Reader.{ruled}
 use Rattle.places.specs.Places.{firstWhere, tabulate, fold, sumBy, insert, remove, look}
 use Rattle.symbols.specs.State.{placeOf, foundIn, vacancyOf, paddedName}

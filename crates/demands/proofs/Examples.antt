@@ -8,10 +8,10 @@ use borrow.Author.Tests.{lt-ltb}
 use lib.Dec.{eqb}
 use Rattle.wire.specs.Bytes.{value, littleEndian}
 use Rattle.wire.specs.Table.{shapeOf}
-use Rattle.wire.specs.Markets.{listed}
+use Rattle.markets.specs.Conditions.{listed}
 use Rattle.wire.specs.Fields.{firstBad, faultOf}
 use Rattle.wire.specs.Reading.{reachBy, reachOf, readBy, readBody, readSized, readShape, readTyped, readReached, readOf}
-use Rattle.wire.specs.declared.markets.Market.{Market}
+use Rattle.markets.specs.declared.Market.{Market}
 use Rattle.feed.specs.Reader.{ruled, numbered}
 use Rattle.places.specs.Places.{firstWhere, fold, sumBy, insert, remove, look}
 use Rattle.symbols.specs.State.{placeOf, foundIn, vacancyOf}

@@ -4,7 +4,7 @@ use native.Mathlib.Omega.{arith}
 use mathlib.Core.List.{List}
 use mathlib.Core.Option.{Option, none, some}
 use mathlib.Core.Path.{_≡_, refl}
-use Rattle.wire.specs.declared.markets.Market.{Market}
+use Rattle.markets.specs.declared.Market.{Market}
 use Rattle.feed.specs.Reader.{Act}
 use Rattle.feed.specs.Feed.{Item, Feed, _▷_, heard, lost, Phase, phase}
 use Rattle.feed.specs.Demand3.{Since, here, more, AfterLoss, Stands}

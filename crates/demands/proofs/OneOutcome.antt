@@ -1,6 +1,6 @@
 -- A promise speaks of the view alone, so the same calls leave the same views, and states with equal views answer alike.
 use mathlib.Core.Path.{_≡_, refl, sym, _∙_}
-use Rattle.wire.specs.declared.markets.Market.{Market}
+use Rattle.markets.specs.declared.Market.{Market}
 use Rattle.book.specs.State.{view, Wf, Fresh}
 use Rattle.book.specs.Reached.{Alike}
 use Rattle.book.specs.declared.Book.{Book}

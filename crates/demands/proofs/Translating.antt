@@ -8,7 +8,7 @@ use Rattle.wire.specs.Outcome.{Outcome, done, refused}
 use Rattle.wire.specs.Reading.{msgType, readOf}
 use Rattle.wire.specs.Message.{typeOf}
 use Rattle.wire.specs.declared.Message.{Message}
-use Rattle.wire.specs.declared.markets.Market.{Market}
+use Rattle.markets.specs.declared.Market.{Market}
 use Rattle.feed.specs.Reader.{Act, clearing, numbered}
 use Rattle.feed.specs.Feed.{Item, heard, lost, Feed, _▷_, ClearsHeard, Accepted, first, second}
 use Rattle.feed.specs.Feed as feed

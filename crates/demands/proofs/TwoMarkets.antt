@@ -4,11 +4,11 @@ use Prim.Native.Nat.{ℕ}
 use native.Mathlib.Omega.{arith}
 use Rattle.wire.specs.Outcome.{refused}
 use Rattle.wire.specs.Bytes.{value, littleEndian}
-use Rattle.wire.specs.Markets.{listed}
+use Rattle.markets.specs.Conditions.{listed}
 use Rattle.wire.specs.Table.{shapeOf}
 use Rattle.wire.specs.Fields.{firstBad, faultOf}
 use Rattle.wire.specs.Reading.{reachBy, reachOf, readBy, readBody, readSized, readShape, readTyped, readReached, readOf}
-use Rattle.wire.specs.declared.markets.Market.{Market}
+use Rattle.markets.specs.declared.Market.{Market}
 use Rattle.feed.specs.Reader.{ruled}
 use Rattle.feed.specs.Demand3.{here, more, at-start, NotLost, NoneLost}
 use Rattle.places.specs.Places.{firstWhere, fold, sumBy, insert, remove, look}

@@ -8,7 +8,7 @@ use Rattle.wire.specs.Bytes.{value, littleEndian}
 use Rattle.wire.specs.Table.{shapeOf}
 use Rattle.wire.specs.Fields.{firstBad, faultOf}
 use Rattle.wire.specs.Reading.{reachBy, reachOf, readBy, readBody, readSized, readShape, readTyped, readReached, readOf}
-use Rattle.wire.specs.declared.markets.Market.{Market}
+use Rattle.markets.specs.declared.Market.{Market}
 use Rattle.feed.specs.Book.{fitted, bookAfter, bookOf}
 use Rattle.feed.specs.Demand3.{here, more, at-start, NotLost, NoneLost}
 use Rattle.places.specs.Places.{firstWhere, fold, sumBy, insert, look}

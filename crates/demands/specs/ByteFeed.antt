@@ -6,7 +6,7 @@ use mathlib.Core.Path.{_≡_}
 use Rattle.wire.specs.Outcome.{Outcome, done, refused}
 use Rattle.wire.specs.Reading.{msgType, readOf}
 use Rattle.wire.specs.declared.Message.{Message}
-use Rattle.wire.specs.declared.markets.Market.{Market}
+use Rattle.markets.specs.declared.Market.{Market}
 use Rattle.feed.specs.Reader.{Act}
 use Rattle.feed.specs.Feed.{Item, Feed, start, _▷_, heard, lost}
 use Rattle.book.specs.State.{View}

@@ -14,7 +14,7 @@ use Rattle.wire.specs.Writing.{Write, countOf, Fills, writeOf}
 use Rattle.wire.specs.Message.{badFieldOf}
 use Rattle.wire.specs.FirstBad.{FirstBadIn, FirstBadOf, Locates}
 use Rattle.wire.specs.declared.Message.{Message}
-use Rattle.wire.specs.declared.markets.Market.{Market}
+use Rattle.markets.specs.declared.Market.{Market}
 use Rattle.feed.specs.Reader.{indexOf}
 use Rattle.places.specs.Places.{among, sumBy}
 use Rattle.symbols.specs.State.{nameBytes, Entry}

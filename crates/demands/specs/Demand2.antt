@@ -15,7 +15,7 @@ use Rattle.wire.specs.Writing.{writeOf}
 use Rattle.wire.specs.RoundTrip.{InRange, Bytes, ReadsBack, WritesBack}
 use Rattle.wire.specs.declared.Head.{Head}
 use Rattle.wire.specs.declared.Message.{Message}
-use Rattle.wire.specs.declared.markets.Market.{Market}
+use Rattle.markets.specs.declared.Market.{Market}
 use Rattle.feed.specs.Reader.{indexOf}
 use Rattle.places.specs.Places.{count, sumBy}
 use Rattle.orders.specs.State.{ordersEach, orderNumber}

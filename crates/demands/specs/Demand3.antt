@@ -8,7 +8,7 @@ use mathlib.Core.Path.{_≡_}
 use lib.ListN.{take, drop}
 use Rattle.wire.specs.Outcome.{done}
 use Rattle.wire.specs.Reading.{reachOf}
-use Rattle.wire.specs.declared.markets.Market.{Market}
+use Rattle.markets.specs.declared.Market.{Market}
 use Rattle.feed.specs.Reader.{Act, clearing, indexOf}
 use Rattle.feed.specs.Feed.{Feed, _▷_, heard, phase}
 use Rattle.feed.specs.Book.{bookOf}

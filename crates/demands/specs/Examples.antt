@@ -1,7 +1,7 @@
 -- Feeds that demand 3 takes as given, as bytes: one with losses, two at the last number that a message can carry, and one that Texas alone takes.
 use Prim.Native.Nat.{ℕ}
 use mathlib.Core.List.{List, [], _∷_}
-use Rattle.wire.specs.declared.markets.Market.{Market}
+use Rattle.markets.specs.declared.Market.{Market}
 use Rattle.book.specs.State.{View, newView, view, Fresh}
 use Rattle.book.specs.Promises.{Steps}
 use Rattle.book.specs.Registering.{registerOf}

@@ -14,7 +14,7 @@ use Rattle.wire.specs.Message.{typeOf, faultIn}
 use Rattle.wire.specs.FirstBad.{FirstBadOf, Locates}
 use Rattle.wire.specs.declared.Fault.{Fault}
 use Rattle.wire.specs.declared.Message.{Message}
-use Rattle.wire.specs.declared.markets.Market.{Market}
+use Rattle.markets.specs.declared.Market.{Market}
 use Rattle.wire.proofs.Cases.{done-is-not-refused}
 use Rattle.wire.proofs.Offsets.{locates-none, field-locates}
 use Rattle.places.specs.Places.{among}

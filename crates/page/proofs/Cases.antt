@@ -14,7 +14,7 @@ use Rattle.wire.specs.Writing.{Write, leaving, refuse, refuseField, countOf}
 use Rattle.wire.specs.Message.{typeOf, faultIn}
 use Rattle.wire.specs.declared.Fault.{Fault}
 use Rattle.wire.specs.declared.Message.{Message}
-use Rattle.wire.specs.declared.markets.Market.{Market}
+use Rattle.markets.specs.declared.Market.{Market}
 use Rattle.symbols.specs.declared.registering.Listing.{Listing}
 use Rattle.columns.specs.Columns.{rendered}
 use Rattle.page.specs.Columns.{columnsOf}

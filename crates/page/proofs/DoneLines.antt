@@ -10,7 +10,7 @@ use Rattle.wire.specs.Outcome.{Outcome, done}
 use Rattle.wire.specs.Reading.{reachOf, readOf}
 use Rattle.wire.specs.Message.{typeOf, indexIn, faultIn}
 use Rattle.wire.specs.declared.Message.{Message}
-use Rattle.wire.specs.declared.markets.Market.{Market}
+use Rattle.markets.specs.declared.Market.{Market}
 use Rattle.wire.proofs.GoodFields.{read-is-good}
 use Rattle.symbols.specs.Registering.{toldOf}
 use Rattle.book.specs.State.{Symbol, View, Next, view, entryOf, placeIn, symbolIn}

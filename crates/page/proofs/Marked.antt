@@ -7,7 +7,7 @@ use Rattle.wire.specs.Outcome.{done, only}
 use Rattle.wire.specs.Writing.{leaving, refuse}
 use Rattle.wire.specs.Message.{faultIn}
 use Rattle.wire.specs.Table.{shapeOf}
-use Rattle.wire.specs.declared.markets.Market.{Market}
+use Rattle.markets.specs.declared.Market.{Market}
 use Rattle.wire.specs.Fields.{firstBad, faultOf}
 use Rattle.columns.specs.Text.{fixed, digitsBy, digits, priced, timed}
 use Rattle.columns.specs.Columns.{rendered}

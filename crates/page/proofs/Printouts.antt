@@ -16,7 +16,7 @@ use Rattle.wire.specs.Reading.{readOf, answeredAs}
 use Rattle.wire.specs.Message.{typeOf, indexIn}
 use Rattle.wire.specs.declared.Answer.{Answer}
 use Rattle.wire.specs.declared.Message.{Message}
-use Rattle.wire.specs.declared.markets.Market.{Market}
+use Rattle.markets.specs.declared.Market.{Market}
 use Rattle.book.specs.State.{View}
 use Rattle.book.specs.Registering.{toldIn}
 use Rattle.orders.specs.declared.levels.Level.{Level}

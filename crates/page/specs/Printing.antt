@@ -11,7 +11,7 @@ use Rattle.wire.specs.Message.{typeOf, indexIn, faultIn}
 use Rattle.wire.specs.FirstBad.{FirstBadOf}
 use Rattle.wire.specs.declared.Fault.{Fault}
 use Rattle.wire.specs.declared.Message.{Message}
-use Rattle.wire.specs.declared.markets.Market.{Market}
+use Rattle.markets.specs.declared.Market.{Market}
 use Rattle.book.specs.State.{view}
 use Rattle.book.specs.Registering.{toldIn}
 use Rattle.book.specs.declared.Book.{Book}

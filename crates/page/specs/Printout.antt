@@ -7,7 +7,7 @@ use Rattle.wire.specs.Outcome.{Outcome, done, refused}
 use Rattle.wire.specs.Reading.{readOf}
 use Rattle.wire.specs.Message.{typeOf, indexIn}
 use Rattle.wire.specs.declared.Message.{Message}
-use Rattle.wire.specs.declared.markets.Market.{Market}
+use Rattle.markets.specs.declared.Market.{Market}
 use Rattle.orders.specs.declared.levels.Level.{Level}
 use Rattle.book.specs.State.{View, Next}
 use Rattle.book.specs.Registering.{toldIn}

@@ -6,12 +6,12 @@ mod turns;
 
 use book::Book;
 use libc::STDERR_FILENO;
+use markets::Market;
 use output::written;
 use turns::INDEX;
 use turns::State;
 use turns::reading;
 use turns::turn;
-use wire::Market;
 ghost use mathlib.Core.Path.{_≡_};
 ghost use lib.ListN.{length};
 ghost use Rattle.parts.specs.Parts.{partRoom};

@@ -7,10 +7,10 @@ use crate::given::rest;
 use crate::shown;
 use crate::timed::with_nanos;
 use book::Book;
+use markets::Market;
+use markets::Named;
 use wire::Answer;
-use wire::Market;
 use wire::Message;
-use wire::Named;
 use wire::PLAIN;
 use wire::Reach;
 ghost use mathlib.Core.Path.{_≡_};
@@ -51,7 +51,7 @@ pub(crate) fn call(b: Book, c: &[u8]) -> Book {
 
 // A number that names no market is no call, so it does not come here.
 fn new_state(b: Book, number: u8) -> Book {
-    match wire::market_named(number as u16) {
+    match markets::market_named(number as u16) {
         Named::Market(market) => Book::new(market),
         Named::Unknown => b,
     }

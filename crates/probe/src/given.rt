@@ -1,5 +1,5 @@
 // What a call gives: numbers, little-endian, and bytes. Past the end of the call every byte is 0.
-use wire::Named;
+use markets::Named;
 ghost use Prim.Native.Nat.{_≤_};
 ghost use lib.ListN.{length};
 
@@ -55,7 +55,7 @@ pub(crate) fn length_of(c: &[u8]) -> usize
 }
 
 fn with_market(number: u8) -> usize {
-    match wire::market_named(number as u16) {
+    match markets::market_named(number as u16) {
         Named::Market(_) => 2,
         Named::Unknown => 0,
     }

@@ -7,7 +7,7 @@ mod timed;
 use book::Book;
 use given::length_of;
 use libc::STDERR_FILENO;
-use wire::Market;
+use markets::Market;
 ghost use mathlib.Core.Path.{_≡_};
 ghost use lib.ListN.{length};
 

@@ -9,14 +9,14 @@ use given::number16;
 use given::plain_at;
 use libc::STDERR_FILENO;
 use libc::STDOUT_FILENO;
+use markets::Market;
+use markets::Named;
 use shown::print_bytes;
 use shown::print_message;
 use shown::print_number;
 use shown::print_offset;
 use wire::Answer;
 use wire::Fault;
-use wire::Market;
-use wire::Named;
 use wire::Reach;
 ghost use mathlib.Core.Path.{_≡_};
 ghost use Prim.Native.Nat.{_≤_};
@@ -131,7 +131,7 @@ fn one_call(c: &[u8]) -> usize
     if byte_at(c, 0) == b'R' {
         return reach_call(c);
     }
-    match wire::market_named(byte_at(c, 1) as u16) {
+    match markets::market_named(byte_at(c, 1) as u16) {
         Named::Market(market) => market_call(c, market),
         Named::Unknown => 0,
     }

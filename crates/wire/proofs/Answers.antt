@@ -7,7 +7,7 @@ use Rattle.wire.specs.Outcome.{Outcome, done, refused}
 use Rattle.wire.specs.Message.{typeOf}
 use Rattle.wire.specs.Reading.{msgType, reachOf, Read, readOf}
 use Rattle.wire.specs.declared.Message.{Message}
-use Rattle.wire.specs.declared.markets.Market.{Market}
+use Rattle.markets.specs.declared.Market.{Market}
 use Rattle.wire.proofs.Refusing.{reach-refused}
 use Rattle.wire.proofs.RoundTrip.{keeps}
 use Rattle.wire.proofs.Ways.{HowRead, unreached, unknown-type, other-size, bad-field, good-fields, how-read}

@@ -10,7 +10,7 @@ use lib.ListN.{take, getD}
 use lib.Seq.{getD-take}
 use borrow.Author.Tests.{ltb-true, ltb-false}
 use Rattle.wire.specs.Bytes.{valueAt}
-use Rattle.wire.specs.Markets.{listed}
+use Rattle.markets.specs.Conditions.{listed}
 use Rattle.wire.specs.Table.{table, shapeOf}
 use Rattle.wire.specs.Fields.{conditionsIn, Sane, fieldsAt, arrayAt, arrayOf, nanosBad, volumeBad, flagBad, sideBad, Check, conditionsAt, checksOf, firstBad, faultOf}
 use Rattle.wire.specs.Message.{fieldsOf, typeOf}
@@ -21,7 +21,7 @@ use Rattle.wire.specs.declared.table.Shape.{Shape}
 use Rattle.wire.specs.declared.fields.Fields.{Fields}
 use Rattle.wire.specs.declared.Fault.{Fault}
 use Rattle.wire.specs.declared.Message.{Message}
-use Rattle.wire.specs.declared.markets.Market.{Market}
+use Rattle.markets.specs.declared.Market.{Market}
 use Rattle.wire.proofs.Numbers.{value-empty}
 use Rattle.wire.proofs.Layouts.{AllRows, by-rows, at-row, layout-sane}
 

@@ -5,7 +5,7 @@ use Prim.Native.Nat.{ℕ}
 use Rattle.wire.specs.declared.table.Shape.{Shape}
 use Rattle.wire.specs.declared.Fault.{Fault}
 use Rattle.wire.specs.declared.Message.{Message}
-use Rattle.wire.specs.declared.markets.Market.{Market}
+use Rattle.markets.specs.declared.Market.{Market}
 use Rattle.wire.specs.Outcome.{done}
 use Rattle.wire.specs.Bytes.{paddedPlain}
 use Rattle.wire.specs.Table.{shapeOf}

@@ -1,6 +1,5 @@
 pub mod Numbers
 pub mod ByteArrays
-pub mod Listed
 pub mod Layouts
 pub mod Laying
 pub mod Cases

@@ -15,7 +15,7 @@ use Rattle.wire.specs.declared.table.Layout.{Layout}
 use Rattle.wire.specs.declared.table.Shape.{Shape}
 use Rattle.wire.specs.declared.Fault.{Fault}
 use Rattle.wire.specs.declared.Message.{Message}
-use Rattle.wire.specs.declared.markets.Market.{Market}
+use Rattle.markets.specs.declared.Market.{Market}
 use Rattle.wire.proofs.Cases.{done-is-not-refused}
 use Rattle.wire.proofs.Checks.{one-first, no-first, bytes-first, message-first}
 use Rattle.wire.proofs.Refusing.{reach-refused}

@@ -15,7 +15,7 @@ use Rattle.wire.specs.Reading.{leastSize, msgSize, reachBy, reachOf, Rea
 use Rattle.wire.specs.Writing.{Write, Fills, imageOf, writeOf}
 use Rattle.wire.specs.declared.table.Shape.{Shape}
 use Rattle.wire.specs.declared.Message.{Message}
-use Rattle.wire.specs.declared.markets.Market.{Market}
+use Rattle.markets.specs.declared.Market.{Market}
 use Rattle.wire.proofs.Cases.{done-is-not-refused, reached, reach-size, own-size}
 use Rattle.wire.proofs.Types.{IsKnown, type-known}
 use Rattle.wire.proofs.Layouts.{layout-sane}

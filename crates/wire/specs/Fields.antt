@@ -8,11 +8,11 @@ use lib.ListN.{take, getD}
 use lib.Seq.{slice}
 use Rattle.wire.specs.Outcome.{Answered, done, only, badAt}
 use Rattle.wire.specs.Bytes.{valueAt, plainRoom}
-use Rattle.wire.specs.Markets.{listed}
+use Rattle.markets.specs.Conditions.{listed}
 use Rattle.wire.specs.declared.table.Layout.{Layout}
 use Rattle.wire.specs.declared.fields.Fields.{Fields}
 use Rattle.wire.specs.declared.Fault.{Fault}
-use Rattle.wire.specs.declared.markets.Market.{Market}
+use Rattle.markets.specs.declared.Market.{Market}
 
 -- how many conditions a type's array holds, one a byte
 abbrev pub conditionsIn : Bool → ℕ

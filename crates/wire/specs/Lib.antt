@@ -1,6 +1,5 @@
 pub mod Outcome
 pub mod Bytes
-pub mod Markets
 pub mod Table
 pub mod Fields
 pub mod Message

@@ -8,7 +8,7 @@ use Rattle.wire.specs.declared.table.Shape.{Shape}
 use Rattle.wire.specs.declared.table.Kind.{Kind}
 use Rattle.wire.specs.declared.fields.Fields.{Fields}
 use Rattle.wire.specs.declared.Fault.{Fault}
-use Rattle.wire.specs.declared.markets.Market.{Market}
+use Rattle.markets.specs.declared.Market.{Market}
 use Rattle.wire.specs.declared.Head.{Head}
 use Rattle.wire.specs.declared.Message.{Message}
 use Rattle.wire.specs.declared.Message.the-variants.{Add, Modify, Delete, Execute, Replace, Imbalance, NonDisplayed, Cross, TradeCancel, CrossCorrection, Retail, Clear, Status}

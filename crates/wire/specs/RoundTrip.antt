@@ -12,7 +12,7 @@ use Rattle.wire.specs.Writing.{Write, leaving, writeOf}
 use Rattle.wire.specs.declared.table.Shape.{Shape}
 use Rattle.wire.specs.declared.fields.Fields.{Fields}
 use Rattle.wire.specs.declared.Message.{Message}
-use Rattle.wire.specs.declared.markets.Market.{Market}
+use Rattle.markets.specs.declared.Market.{Market}
 
 -- What the types of the code say: each field is within its type, and each element of a slice is a byte.
 pub record InRange (f : Fields) : Type 0 where

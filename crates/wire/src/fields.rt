@@ -1,14 +1,14 @@
 // The fields of a message of any type, and the rules that they keep.
 use crate::BUY;
 use crate::Fault;
-use crate::Market;
 use crate::PLAIN;
 use crate::SELL;
 use crate::bytes::get;
 use crate::bytes::get8;
 use crate::bytes::get32;
-use crate::markets::condition_listed;
 use crate::table::Layout;
+use markets::Market;
+use markets::condition_listed;
 ghost use mathlib.Core.Path.{_≡_};
 ghost use Prim.Native.Nat.{_+_, _^_, _≤_, _<_};
 ghost use mathlib.Core.Bool.{true};

@@ -4,17 +4,12 @@
 mod bytes;
 mod extent;
 mod fields;
-mod markets;
 mod reading;
 mod table;
 mod typed;
 mod writing;
 
 pub use extent::reach_at;
-pub use markets::Market;
-pub use markets::Named;
-pub use markets::condition_listed;
-pub use markets::market_named;
 pub use reading::decode;
 pub use typed::bad_field;
 pub use typed::index_of;

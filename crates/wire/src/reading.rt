@@ -2,7 +2,6 @@
 use crate::Answer;
 use crate::Decoded;
 use crate::Fault;
-use crate::Market;
 use crate::PLAIN;
 use crate::Reach;
 use crate::bytes::get16;
@@ -15,6 +14,7 @@ use crate::table::Layout;
 use crate::table::Shape;
 use crate::table::shape_of;
 use crate::typed::message_of;
+use markets::Market;
 ghost use mathlib.Core.Path.{_≡_};
 ghost use Prim.Native.Nat.{_≤_};
 ghost use lib.ListN.{length};

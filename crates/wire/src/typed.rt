@@ -1,7 +1,6 @@
 // Typed messages and their fields: each type has its own.
 use crate::Fault;
 use crate::Head;
-use crate::Market;
 use crate::Message;
 use crate::PLAIN;
 use crate::fields::Fields;
@@ -9,6 +8,7 @@ use crate::fields::fault_of;
 use crate::table::Kind;
 use crate::table::Shape;
 use crate::table::shape_of;
+use markets::Market;
 ghost use mathlib.Core.Path.{_≡_};
 ghost use Rattle.wire.specs.RoundTrip.{InRange};
 ghost use Rattle.wire.specs.Fields.{faultAs};

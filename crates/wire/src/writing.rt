@@ -1,6 +1,5 @@
 // Writing a message into a lent buffer.
 use crate::Fault;
-use crate::Market;
 use crate::Message;
 use crate::PLAIN;
 use crate::Written;
@@ -16,6 +15,7 @@ use crate::table::Shape;
 use crate::table::shape_of;
 use crate::typed::fields_of;
 use crate::typed::type_of;
+use markets::Market;
 ghost use mathlib.Core.Path.{_≡_};
 ghost use mathlib.Core.List.{_++_};
 ghost use Prim.Native.Nat.{_≤_};

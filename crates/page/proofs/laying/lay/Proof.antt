@@ -5,7 +5,7 @@ use native.Mathlib.Omega.{arith}
 use denote.Ref.{now}
 use lib.ListN.{length, take, drop}
 use Rattle.wire.specs.Reading.{readOf}
-use Rattle.wire.specs.declared.markets.Market.{Market}
+use Rattle.markets.specs.declared.Market.{Market}
 use Rattle.book.specs.State.{view}
 use Rattle.columns.specs.Held.{room, held}
 use Rattle.columns.proofs.Holding.{held-within}

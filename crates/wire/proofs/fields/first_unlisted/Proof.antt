@@ -5,7 +5,7 @@ use Prim.Native.Nat.{ℕ}
 use native.Mathlib.Omega.{arith}
 use lib.ListN.{getD}
 use borrow.Author.Needs.{needs}
-use Rattle.wire.specs.Markets.{listed}
+use Rattle.markets.specs.Conditions.{listed}
 use Rattle.wire.proofs.Checks.{first-condition, second-condition, third-condition, fourth-condition, none-unlisted}
 use Rattle.wire.proofs.fields.first_unlisted.Statement.{statement}
 use Rattle.wire.proofs.fields.first_unlisted.Tie as tie

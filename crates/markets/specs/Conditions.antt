@@ -1,33 +1,11 @@
--- The markets with their numbers, and the conditions that source 001 lists for a 103 and a 110, alike: the codes of each position, each with the markets that it is listed for (M-107).
+-- The conditions that source 001 lists for a 103 and a 110, alike: the codes of each position, each with the markets that it is listed for.
 use Prim.Native.Nat.{ℕ}
 use mathlib.Core.Bool.{Bool, true, false, cond}
 use mathlib.Core.List.{List, [], _∷_}
 use lib.Dec.{eqb}
 use lib.ListN.{getD}
-use Rattle.wire.specs.declared.markets.Market.{Market}
-use Rattle.wire.specs.declared.markets.Market.the-variants.{Nyse, Arca, American, National, Texas}
-use Rattle.wire.specs.declared.markets.Named.{Named}
-
--- source 002's Market ID
-abbrev pub marketNumber : Market → ℕ
-marketNumber Nyse = 1
-marketNumber Arca = 3
-marketNumber American = 9
-marketNumber National = 10
-marketNumber Texas = 11
-
-abbrev pub everyMarket : List Market
-everyMarket = Nyse ∷ Arca ∷ American ∷ National ∷ Texas ∷ []
-
--- the market of a number, among these
-abbrev pub namedAmong : List Market → ℕ → Named
-namedAmong [] n = Named.Unknown
-namedAmong (market ∷ markets) n = cond (eqb n (marketNumber market)) (Named.Market market) (namedAmong markets n)
-
-unfoldable pub namedOf : ℕ → Named
-namedOf n = namedAmong everyMarket n
-
--- ---- the lists
+use Rattle.markets.specs.declared.Market.{Market}
+use Rattle.markets.specs.declared.Market.the-variants.{Nyse, Arca, American, National, Texas}
 
 -- a code, and the markets that source 001 lists it for
 pub record Code : Type 0 where

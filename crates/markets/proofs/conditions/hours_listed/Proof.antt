@@ -1,10 +1,10 @@
 -- Each arm is an entry of the list, and every other byte is none of them.
 use mathlib.Core.Path.{sym, _∙_}
 use borrow.Author.Tests.{ne-eqb}
-use Rattle.wire.specs.Markets.{hours}
-use Rattle.wire.proofs.Listed.{member-on-list, entry-decides}
-use Rattle.wire.proofs.markets.hours_listed.Statement.{statement}
-use Rattle.wire.proofs.markets.hours_listed.Tie as tie
+use Rattle.markets.specs.Conditions.{hours}
+use Rattle.markets.proofs.Listed.{member-on-list, entry-decides}
+use Rattle.markets.proofs.conditions.hours_listed.Statement.{statement}
+use Rattle.markets.proofs.conditions.hours_listed.Tie as tie
 
 returns : tie.Need-returns
 returns c = entry-decides (c .before .args .market) hours _ _ (c .match .keys1)

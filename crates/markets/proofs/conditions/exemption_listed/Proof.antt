@@ -2,10 +2,10 @@
 use mathlib.Core.Path.{sym, _∙_}
 use borrow.Author.Needs.{needs}
 use borrow.Author.Tests.{ne-eqb}
-use Rattle.wire.specs.Markets.{exemption}
-use Rattle.wire.proofs.Listed.{member-on-list, entry-decides, held-alone}
-use Rattle.wire.proofs.markets.exemption_listed.Statement.{statement}
-use Rattle.wire.proofs.markets.exemption_listed.Tie as tie
+use Rattle.markets.specs.Conditions.{exemption}
+use Rattle.markets.proofs.Listed.{member-on-list, entry-decides, held-alone}
+use Rattle.markets.proofs.conditions.exemption_listed.Statement.{statement}
+use Rattle.markets.proofs.conditions.exemption_listed.Tie as tie
 
 on-arca-american-nyse-requires : tie.Need-on-arca-american-nyse-requires
 on-arca-american-nyse-requires c κs = search needs

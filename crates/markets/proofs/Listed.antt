@@ -1,47 +1,13 @@
--- The markets and their lists once more, with the sources' own numbers and bytes, by computation; and a code is on a list where an entry has it and holds for the market.
+-- The lists of conditions once more, as plain bytes for each market and position, by computation; and a code is on a list where an entry has it and holds for the market.
 use mathlib.Core.Bool.{Bool, true, false, cond, _&&_}
 use mathlib.Core.List.{List, [], _∷_}
 use mathlib.Core.Path.{_≡_, refl, sym, ap, _∙_}
 use Prim.Native.Nat.{ℕ, _≤_}
-use native.Mathlib.Omega.{arith}
 use lib.Dec.{eqb}
 use lib.ListN.{List·getD-eq-default}
-use borrow.Author.Tests.{eqb-true}
-use Rattle.wire.specs.Markets.{marketNumber, everyMarket, namedAmong, namedOf, Code, codesOf, member, lists, listed}
-use Rattle.wire.specs.declared.markets.Market.{Market}
-use Rattle.wire.specs.declared.markets.Market.the-variants.{Nyse, Arca, American, National, Texas}
-use Rattle.wire.specs.declared.markets.Named.{Named}
-
--- ---- the markets: each has its number, and no other number names one
-pub record EveryName : Type 0 where
-  pub nyse : namedOf 1 ≡ Named.Market Nyse
-  pub arca : namedOf 3 ≡ Named.Market Arca
-  pub american : namedOf 9 ≡ Named.Market American
-  pub national : namedOf 10 ≡ Named.Market National
-  pub texas : namedOf 11 ≡ Named.Market Texas
-  pub again : (market : Market) → namedOf (marketNumber market) ≡ Named.Market market
-  pub only : (n : ℕ) (market : Market) → namedOf n ≡ Named.Market market → n ≡ marketNumber market
-
-named-again : (market : Market) → namedOf (marketNumber market) ≡ Named.Market market
-unfolding namedOf
-named-again Nyse = refl
-named-again Arca = refl
-named-again American = refl
-named-again National = refl
-named-again Texas = refl
-
-named-only : (markets : List Market) (n : ℕ) (market : Market) → namedAmong markets n ≡ Named.Market market → n ≡ marketNumber market
-named-only [] n market e = absurd (let z : _≡_ {A = ℕ} 0 1 = cc in omega arith)
-named-only (k ∷ ks) n market e = go (eqb n (marketNumber k)) refl (named-only ks n market) e
-  where
-    go : (same : Bool) → eqb n (marketNumber k) ≡ same → (namedAmong ks n ≡ Named.Market market → n ≡ marketNumber market)
-        → cond same (Named.Market k) (namedAmong ks n) ≡ Named.Market market → n ≡ marketNumber market
-    go true q ih p = let is : k ≡ market = cc in eqb-true n (marketNumber k) q ∙ ap marketNumber is
-    go false q ih p = ih p
-
-pub every-name : EveryName
-unfolding namedOf
-every-name = record { nyse = refl; arca = refl; american = refl; national = refl; texas = refl; again = named-again; only = λ n market. named-only everyMarket n market }
+use Rattle.markets.specs.Conditions.{Code, codesOf, member, lists, listed}
+use Rattle.markets.specs.declared.Market.{Market}
+use Rattle.markets.specs.declared.Market.the-variants.{Nyse, Arca, American, National, Texas}
 
 -- ---- what a market lists, position by position: `@` is 64, `C` 67, a space 32, `F` 70, `O` 79, `5` 53, `6` 54, `7` 55, `T` 84, `U` 85, `Z` 90, `I` 73, `V` 86
 pub record Lists (market : Market) (first second third fourth : List ℕ) : Type 0 where
@@ -74,7 +40,7 @@ every-list = record {
 }
 
 -- ---- the entry of a code decides
-abbrev onList : Market → ℕ → List Code → Bool
+abbrev pub onList : Market → ℕ → List Code → Bool
 onList market c [] = false
 onList market c (k ∷ ks) = cond (eqb c (k .code) && k .markets market) true (onList market c ks)
 

@@ -1,34 +1,7 @@
-// The markets that send this feed, and the conditions that each of them lists.
+// The conditions of a trade that a market lists, position by position.
+use crate::Market;
 ghost use mathlib.Core.Path.{_≡_};
-ghost use Rattle.wire.specs.Markets.{namedOf, onTexas, onArcaAmericanNyse, listed, member, codesOf, settlement, exemption, hours, detail};
-
-pub enum Market {
-    Nyse,
-    Arca,
-    American,
-    National,
-    Texas,
-}
-
-// What a number names.
-pub enum Named {
-    Market(Market),
-    Unknown,
-}
-
-// The market of source 002's Market ID.
-pub fn market_named(number: u16) -> Named
-    ensures { λ r. ⌜ r ≡ namedOf number ⌝ }
-{
-    match number {
-        1 => Named::Market(Market::Nyse),
-        3 => Named::Market(Market::Arca),
-        9 => Named::Market(Market::American),
-        10 => Named::Market(Market::National),
-        11 => Named::Market(Market::Texas),
-        _ => Named::Unknown,
-    }
-}
+ghost use Rattle.markets.specs.Conditions.{onTexas, onArcaAmericanNyse, listed, member, codesOf, settlement, exemption, hours, detail};
 
 // Does the market list this code as a condition? The first of the four positions is 0; beyond the last one nothing is listed.
 pub fn condition_listed(market: Market, position: usize, code: u8) -> bool

@@ -3,10 +3,10 @@ use mathlib.Core.Path.{sym, ap, _∙_}
 use Prim.Native.Nat.{ℕ}
 use native.Mathlib.Omega.{arith}
 use borrow.Author.Needs.{needs}
-use Rattle.wire.specs.Markets.{listed}
-use Rattle.wire.proofs.Listed.{none-beyond}
-use Rattle.wire.proofs.markets.condition_listed.Statement.{statement}
-use Rattle.wire.proofs.markets.condition_listed.Tie as tie
+use Rattle.markets.specs.Conditions.{listed}
+use Rattle.markets.proofs.Listed.{none-beyond}
+use Rattle.markets.proofs.conditions.condition_listed.Statement.{statement}
+use Rattle.markets.proofs.conditions.condition_listed.Tie as tie
 
 settlement-listed-requires : tie.Need-settlement-listed-requires
 settlement-listed-requires c κs = search needs

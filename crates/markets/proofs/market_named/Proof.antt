@@ -1,9 +1,9 @@
 -- Each arm is a market's number, and every other number differs from all of them.
 use mathlib.Core.Path.{sym, ap}
-use borrow.Author.Tests.{ne-eqb}
-use Rattle.wire.specs.Markets.{namedOf}
-use Rattle.wire.proofs.markets.market_named.Statement.{statement}
-use Rattle.wire.proofs.markets.market_named.Tie as tie
+use Rattle.markets.specs.Numbers.{namedOf}
+use Rattle.markets.proofs.Names.{unnamed}
+use Rattle.markets.proofs.market_named.Statement.{statement}
+use Rattle.markets.proofs.market_named.Tie as tie
 
 returns : tie.Need-returns
 unfolding namedOf
@@ -26,8 +26,7 @@ unfolding namedOf
 returns-5 c = sym (ap namedOf (c .match .keys5))
 
 returns-6 : tie.Need-returns-6
-unfolding namedOf
-returns-6 c = let r = c .match .rest in simp (ne-eqb _ _ (r .0 .0 .0 .0 .1), ne-eqb _ _ (r .0 .0 .0 .1), ne-eqb _ _ (r .0 .0 .1), ne-eqb _ _ (r .0 .1), ne-eqb _ _ (r .1))
+returns-6 c = let r = c .match .rest in sym (unnamed _ (r .0 .0 .0 .0 .1) (r .0 .0 .0 .1) (r .0 .0 .1) (r .0 .1) (r .1))
 
 pub market-named-spec : {M : Type 1} → statement M
 market-named-spec = tie.close (tie.spec returns returns-2 returns-3 returns-4 returns-5 returns-6)
