@@ -7,6 +7,8 @@ use lib.Dec.{eqb}
 use lib.ListN.{length}
 use Rattle.places.specs.Places.{symbols, shelf, count}
 use Rattle.places.proofs.Living.{in-order-live}
+use Rattle.places.proofs.Nearness.{near-new}
+use Rattle.places.proofs.Mirroring.{mirrored-new}
 use Rattle.places.proofs.EightShelves.{within-places, one-of-number, new-singles, new-none}
 use Rattle.orders.specs.State.{ordersEach, noOrder, orderNumber, orderLive, liveAt, Wf, noOrders}
 use Rattle.orders.specs.declared.Order.{Order}
@@ -26,7 +28,11 @@ module _ (b : Orders) (k : ℕ) where
   one-live w h = one-of-number orderNumber orderLive ordersEach (b .places) k (w .singles) h
 
 pub no-orders-sound : Wf noOrders
-no-orders-sound = record { singles = new-singles orderNumber orderLive ordersEach noOrder refl (symbols * ordersEach) }
+no-orders-sound = record {
+  singles = new-singles orderNumber orderLive ordersEach noOrder refl (symbols * ordersEach);
+  mirrored = mirrored-new orderNumber orderLive (symbols * ordersEach) noOrder;
+  near = λ k h. near-new ordersEach k (symbols * ordersEach);
+}
 
 pub new-has-none : (k : ℕ) → liveAt noOrders k ≡ []
 unfolding liveAt

@@ -7,9 +7,10 @@ use Prim.Native.Nat.{ℕ, _<_, _≤_}
 use native.Mathlib.Omega.{arith}
 use borrow.Author.Tests.{lt-ltb, le-ltb, eq-eqb, ne-eqb}
 use lib.ListN.{getD, set}
-use Rattle.places.specs.Places.{look, inOrder, insert}
+use Rattle.feed.specs.Reader.{fits}
+use Rattle.places.specs.Places.{look, inOrder, insert, Lands}
 use Rattle.places.proofs.Living.{Lies, look-none}
-use Rattle.places.proofs.Landing.{lands-nowhere, missing, found, crowded, roomy, lands-new, lands-out, lands-changed, lands-instead, absent-after, same-after, still-there}
+use Rattle.places.proofs.Landing.{placed-nowhere, lands-nowhere, missing, found, crowded, roomy, lands-new, lands-out, lands-changed, lands-instead, lands-moved, absent-after, same-after, still-there}
 use Rattle.orders.specs.State.{ordersEach, noOrder, orderNumber, orderLive}
 use Rattle.orders.specs.Rules.{applyTo, orderOf, repriced, less}
 use Rattle.orders.specs.Deciding.{OrderShelf, OrderAt, OrderRoom, liveOrders, Decides, lands, misfits, crowds}
@@ -24,6 +25,12 @@ module _ (l : List Order) (w : OrderShelf l) where
   hit : (n i : ℕ) → OrderAt n l i → i < ordersEach → Lies orderNumber orderLive noOrder refl n l i
   hit = found orderNumber orderLive noOrder refl ordersEach l w
 
+  -- one place alone is changed
+  alone : {place : ℕ} {o : Order} {os : List Order} → Lands orderNumber orderLive ordersEach l place o os → Decides l (Verdict.Fits ordersEach place o) (fits os)
+  alone {place} {o} {os} p =
+      lands {gone = ordersEach} {place = place} {o = o} {rest = liveOrders l} {os = os} (lands-nowhere orderNumber orderLive noOrder refl ordersEach l w noOrder)
+      (rw (placed-nowhere orderNumber orderLive noOrder refl ordersEach l w noOrder) p)
+
   -- ---- add
   module _ (n : ℕ) (buy : Bool) (p v i j : ℕ) (at : OrderAt n l i) (room : OrderRoom l j) where
     pub add-twice : i < ordersEach → Decides l Verdict.Misfit (applyTo (liveOrders l) (Change.Add n buy p v))
@@ -34,11 +41,11 @@ module _ (l : List Order) (w : OrderShelf l) where
     unfolding applyTo
     add-crowded h g = rw (missed n i at h, crowded orderNumber orderLive noOrder refl ordersEach l w j room g) crowds
 
-    pub add-fits : ordersEach ≤ i → j < ordersEach → Decides l (Verdict.Fits j (orderOf n buy p v)) (applyTo (liveOrders l) (Change.Add n buy p v))
+    pub add-fits : ordersEach ≤ i → j < ordersEach → Decides l (Verdict.Fits ordersEach j (orderOf n buy p v)) (applyTo (liveOrders l) (Change.Add n buy p v))
     unfolding applyTo
     add-fits h g =
         rw (missed n i at h, lt-ltb _ _ (roomy orderNumber orderLive noOrder refl ordersEach l w j room g))
-        (lands (lands-new orderNumber orderLive noOrder refl ordersEach l w (orderOf n buy p v) i j refl at h room g))
+        (alone (lands-new orderNumber orderLive noOrder refl ordersEach l w (orderOf n buy p v) i j refl at h room g))
 
   -- ---- the others find their order at i, or nowhere
   module _ (n i : ℕ) (at : OrderAt n l i) where
@@ -67,30 +74,30 @@ module _ (l : List Order) (w : OrderShelf l) where
       unfolding applyTo
       modify-other-side buy p v t = rw (hit n i at h .looked, t) misfits
 
-      pub modify-fits : (buy : Bool) (p v : ℕ) → Bool·beq (x .buy) buy ≡ true → Decides l (Verdict.Fits i (repriced x p v)) (applyTo (liveOrders l) (Change.Modify n buy p v))
+      pub modify-fits : (buy : Bool) (p v : ℕ) → Bool·beq (x .buy) buy ≡ true → Decides l (Verdict.Fits ordersEach i (repriced x p v)) (applyTo (liveOrders l) (Change.Modify n buy p v))
       unfolding applyTo
       modify-fits buy p v t =
           rw (hit n i at h .looked, t)
-          (lands (lands-changed orderNumber orderLive noOrder refl ordersEach l w n i (repriced x p v) at h (hit n i at h .key-is) (hit n i at h .live-is)))
+          (alone (lands-changed orderNumber orderLive noOrder refl ordersEach l w n i (repriced x p v) at h (hit n i at h .key-is) (hit n i at h .live-is)))
 
-      pub delete-fits : Decides l (Verdict.Fits i noOrder) (applyTo (liveOrders l) (Change.Delete n))
+      pub delete-fits : Decides l (Verdict.Fits ordersEach i noOrder) (applyTo (liveOrders l) (Change.Delete n))
       unfolding applyTo
-      delete-fits = rw (hit n i at h .looked) (lands (lands-out orderNumber orderLive noOrder refl ordersEach l w n i at h))
+      delete-fits = rw (hit n i at h .looked) (alone (lands-out orderNumber orderLive noOrder refl ordersEach l w n i at h))
 
       module _ (v : ℕ) where
         pub execute-over : x .volume < v → Decides l Verdict.Misfit (applyTo (liveOrders l) (Change.Execute n v))
         unfolding applyTo
         execute-over g = rw (hit n i at h .looked, lt-ltb _ _ g) misfits
 
-        pub execute-all : x .volume ≡ v → Decides l (Verdict.Fits i noOrder) (applyTo (liveOrders l) (Change.Execute n v))
+        pub execute-all : x .volume ≡ v → Decides l (Verdict.Fits ordersEach i noOrder) (applyTo (liveOrders l) (Change.Execute n v))
         unfolding applyTo
-        execute-all g = rw (hit n i at h .looked, le-ltb (x .volume) v (omega arith), eq-eqb _ _ g) (lands (lands-out orderNumber orderLive noOrder refl ordersEach l w n i at h))
+        execute-all g = rw (hit n i at h .looked, le-ltb (x .volume) v (omega arith), eq-eqb _ _ g) (alone (lands-out orderNumber orderLive noOrder refl ordersEach l w n i at h))
 
-        pub execute-some : v ≤ x .volume → (x .volume ≡ v → ⊥) → Decides l (Verdict.Fits i (less x v)) (applyTo (liveOrders l) (Change.Execute n v))
+        pub execute-some : v ≤ x .volume → (x .volume ≡ v → ⊥) → Decides l (Verdict.Fits ordersEach i (less x v)) (applyTo (liveOrders l) (Change.Execute n v))
         unfolding applyTo
         execute-some g ne =
             rw (hit n i at h .looked, le-ltb _ _ g, ne-eqb _ _ ne)
-            (lands (lands-changed orderNumber orderLive noOrder refl ordersEach l w n i (less x v) at h (hit n i at h .key-is) (hit n i at h .live-is)))
+            (alone (lands-changed orderNumber orderLive noOrder refl ordersEach l w n i (less x v) at h (hit n i at h .key-is) (hit n i at h .live-is)))
 
       module _ (new : ℕ) (buy : Bool) (p v : ℕ) where
         pub replace-other-side : Bool·beq (x .buy) buy ≡ false → Decides l Verdict.Misfit (applyTo (liveOrders l) (Change.Replace n new buy p v))
@@ -101,19 +108,28 @@ module _ (l : List Order) (w : OrderShelf l) where
           abbrev o : Order
           o = orderOf new buy p v
 
-          pub replace-fits : ordersEach ≤ j → Decides l (Verdict.Fits i o) (applyTo (liveOrders l) (Change.Replace n new buy p v))
+          pub replace-moves : ordersEach ≤ j → (free : ℕ) → OrderRoom l free → free < ordersEach → Decides l (Verdict.Fits i free o) (applyTo (liveOrders l) (Change.Replace n new buy p v))
           unfolding applyTo
-          replace-fits g =
+          replace-moves g free room r =
               let z = absent-after orderNumber orderLive noOrder refl ordersEach l w n i at h o refl j there g in
               rw (hit n i at h .looked, t, hit n i at h .removed, look-none orderNumber orderLive new (set l i noOrder) z)
-              (lands {place = i} {o = o} {os = insert orderNumber o (inOrder orderNumber orderLive (set l i noOrder))} (lands-instead orderNumber orderLive noOrder refl ordersEach l w n i at h o refl z))
+              (lands {gone = i} {place = free} {o = o} {rest = inOrder orderNumber orderLive (set l i noOrder)} {os = insert orderNumber o (inOrder orderNumber orderLive (set l i noOrder))}
+              (rw (hit n i at h .removed) at (lands-out orderNumber orderLive noOrder refl ordersEach l w n i at h))
+              (lands-moved orderNumber orderLive noOrder refl ordersEach l w n i at h o refl j there g free room r))
 
-          pub replace-same : i ≡ j → Decides l (Verdict.Fits i o) (applyTo (liveOrders l) (Change.Replace n new buy p v))
+          pub replace-full : ordersEach ≤ j → Decides l (Verdict.Fits ordersEach i o) (applyTo (liveOrders l) (Change.Replace n new buy p v))
+          unfolding applyTo
+          replace-full g =
+              let z = absent-after orderNumber orderLive noOrder refl ordersEach l w n i at h o refl j there g in
+              rw (hit n i at h .looked, t, hit n i at h .removed, look-none orderNumber orderLive new (set l i noOrder) z)
+              (alone {place = i} {o = o} {os = insert orderNumber o (inOrder orderNumber orderLive (set l i noOrder))} (lands-instead orderNumber orderLive noOrder refl ordersEach l w n i at h o refl z))
+
+          pub replace-same : i ≡ j → Decides l (Verdict.Fits ordersEach i o) (applyTo (liveOrders l) (Change.Replace n new buy p v))
           unfolding applyTo
           replace-same e =
               let z = same-after orderNumber orderLive noOrder refl ordersEach l w n i at h o refl j there e in
               rw (hit n i at h .looked, t, hit n i at h .removed, look-none orderNumber orderLive new (set l i noOrder) z)
-              (lands {place = i} {o = o} {os = insert orderNumber o (inOrder orderNumber orderLive (set l i noOrder))} (lands-instead orderNumber orderLive noOrder refl ordersEach l w n i at h o refl z))
+              (alone {place = i} {o = o} {os = insert orderNumber o (inOrder orderNumber orderLive (set l i noOrder))} (lands-instead orderNumber orderLive noOrder refl ordersEach l w n i at h o refl z))
 
           pub replace-twice : j < ordersEach → (i ≡ j → ⊥) → Decides l Verdict.Misfit (applyTo (liveOrders l) (Change.Replace n new buy p v))
           unfolding applyTo
@@ -121,6 +137,6 @@ module _ (l : List Order) (w : OrderShelf l) where
               rw (hit n i at h .looked, t, hit n i at h .removed, still-there orderNumber orderLive noOrder refl ordersEach l w n i at h o refl j there g ne .looked) misfits
 
   -- ---- the rest change no order
-  pub nothing-fits : (o : Order) → Decides l (Verdict.Fits ordersEach o) (applyTo (liveOrders l) Change.Nothing)
+  pub nothing-fits : (o : Order) → Decides l (Verdict.Fits ordersEach ordersEach o) (applyTo (liveOrders l) Change.Nothing)
   unfolding applyTo
-  nothing-fits o = lands (lands-nowhere orderNumber orderLive noOrder refl ordersEach l w o)
+  nothing-fits o = alone (lands-nowhere orderNumber orderLive noOrder refl ordersEach l w o)

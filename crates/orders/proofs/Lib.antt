@@ -1,4 +1,5 @@
 pub mod Sizes
+pub mod Finding
 pub mod Judging
 pub mod Storing
 pub mod Quoting

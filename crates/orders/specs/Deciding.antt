@@ -1,8 +1,12 @@
 -- Decide, then store: the contracts of searches, of decisions on small values and of stores. No rule of document 01 stands here, and nothing here need be believed.
+use mathlib.Core.Bool.{false, cond}
 use mathlib.Core.List.{List}
-use Prim.Native.Nat.{ℕ}
+use Prim.Native.Nat.{ℕ, _+_, _*_}
+use lib.Dec.{ltb}
+use lib.ListN.{getD, set}
 use Rattle.feed.specs.Reader.{Fit, fits, misfit, no-room}
-use Rattle.places.specs.Places.{inOrder, Shelf, FoundAt, FreeAt, placedIn, Lands}
+use Rattle.places.specs.Places.{inOrder, Shelf, FoundAt, FreeAt, placed, placedIn, Lands, emptied}
+use Rattle.places.specs.Homes.{raisedAt, loweredAt}
 use Rattle.orders.specs.State.{ordersEach, noOrder, orderNumber, orderLive}
 use Rattle.orders.specs.declared.Fit as code
 use Rattle.orders.specs.declared.Order.{Order}
@@ -23,17 +27,38 @@ OrderAt n l i = FoundAt orderNumber orderLive noOrder ordersEach n l i
 abbrev pub OrderRoom : List Order → ℕ → Type 0
 OrderRoom l i = FreeAt orderLive noOrder ordersEach l i
 
--- ---- a verdict is what the rule says of the live orders
+-- ---- a verdict is what the rule says of the live orders: one place is emptied, then the order goes to its own
 pub data Decides (l : List Order) : Verdict → Fit (List Order) → Type 0 where
-  lands : {place : ℕ} {o : Order} {os : List Order} → Lands orderNumber orderLive ordersEach l place o os → Decides l (Verdict.Fits place o) (fits os)
+  lands : {gone place : ℕ} {o : Order} {rest os : List Order} → Lands orderNumber orderLive ordersEach l gone noOrder rest → Lands orderNumber orderLive ordersEach (placed ordersEach l gone noOrder) place o os
+      → Decides l (Verdict.Fits gone place o) (fits os)
   misfits : Decides l Verdict.Misfit misfit
   crowds : Decides l Verdict.NoRoom no-room
 
 -- ---- the stores
+-- the span of the new order's home is raised, then that of the home whose order gave way is lowered
+abbrev pub spansAfter : Orders → ℕ → ℕ → Order → List ℕ
+spansAfter b k i o =
+    loweredAt (set (b .numbers) (k * ordersEach + i) (o .number)) (set (b .lives) (k * ordersEach + i) (o .live))
+    (raisedAt (b .spans) (k * ordersEach) ordersEach i (o .number) (o .live)) (k * ordersEach) ordersEach (getD (b .numbers) (k * ordersEach + i) 0)
+
 abbrev pub withOrder : Orders → ℕ → ℕ → Order → Orders
-withOrder b k i o = record { places = placedIn ordersEach k (b .places) i o }
+withOrder b k i o = record {
+  places = placedIn ordersEach k (b .places) i o;
+  numbers = placedIn ordersEach k (b .numbers) i (o .number);
+  lives = placedIn ordersEach k (b .lives) i (o .live);
+  spans = cond (ltb i ordersEach) (spansAfter b k i o) (b .spans);
+}
 
 abbrev pub settledAt : Orders → ℕ → Verdict → Changed
-settledAt b k (Verdict.Fits place o) = record { orders = withOrder b k place o; fit = code.Fit.Fits }
+settledAt b k (Verdict.Fits gone place o) = record { orders = withOrder (withOrder b k gone noOrder) k place o; fit = code.Fit.Fits }
 settledAt b k Verdict.Misfit = record { orders = b; fit = code.Fit.Misfit }
 settledAt b k Verdict.NoRoom = record { orders = b; fit = code.Fit.NoRoom }
+
+-- the first j places of a symbol emptied
+abbrev pub emptiedTo : Orders → ℕ → ℕ → Orders
+emptiedTo b k j = record {
+  places = emptied ordersEach k noOrder (b .places) j;
+  numbers = emptied ordersEach k 0 (b .numbers) j;
+  lives = emptied ordersEach k false (b .lives) j;
+  spans = emptied ordersEach k 0 (b .spans) j;
+}

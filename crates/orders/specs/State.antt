@@ -1,9 +1,10 @@
 -- The live orders of eight symbols: document 01, "The book".
 use mathlib.Core.Bool.{Bool, false}
 use mathlib.Core.List.{List}
-use Prim.Native.Nat.{ℕ, _*_}
+use Prim.Native.Nat.{ℕ, _*_, _<_}
 use lib.ListN.{replicate}
 use Rattle.places.specs.Places.{symbols, shelf, onShelf, Singles}
+use Rattle.places.specs.Homes.{Mirrored, Near}
 use Rattle.orders.specs.declared.Order.{Order}
 use Rattle.orders.specs.declared.Orders.{Orders}
 
@@ -27,10 +28,17 @@ shelfAt b k = shelf ordersEach k (b .places)
 unfoldable pub liveAt : Orders → ℕ → List Order
 liveAt b k = onShelf orderNumber orderLive ordersEach (b .places) k
 
--- what holds of every state: no number is live twice in a symbol
+-- what holds of every state: no number is live twice in a symbol; searches read the orders' own numbers and marks; each live order lies within the span of its home
 pub record Wf (b : Orders) : Type 0 where
   pub singles : Singles orderNumber orderLive ordersEach (b .places)
+  pub mirrored : Mirrored orderNumber orderLive (b .places) (b .numbers) (b .lives)
+  pub near : (k : ℕ) → k < symbols → Near (b .numbers) (b .lives) (b .spans) (k * ordersEach) ordersEach
 
 -- the new orders: every place empty
 abbrev pub noOrders : Orders
-noOrders = record { places = replicate (symbols * ordersEach) noOrder }
+noOrders = record {
+  places = replicate (symbols * ordersEach) noOrder;
+  numbers = replicate (symbols * ordersEach) 0;
+  lives = replicate (symbols * ordersEach) false;
+  spans = replicate (symbols * ordersEach) 0;
+}

@@ -10,12 +10,14 @@ use crate::rules::judge_execute;
 use crate::rules::judge_modify;
 use crate::rules::judge_nothing;
 use crate::rules::judge_replace;
+use crate::search::find;
+use crate::search::room;
 use places::SYMBOLS;
 ghost use Prim.Native.Nat.{_<_};
 ghost use Rattle.places.specs.Places.{symbols};
-ghost use Rattle.orders.specs.State.{shelfAt};
+ghost use Rattle.orders.specs.State.{shelfAt, Wf};
 ghost use Rattle.orders.specs.Rules.{applyTo};
-ghost use Rattle.orders.specs.Deciding.{OrderShelf, liveOrders, Decides};
+ghost use Rattle.orders.specs.Deciding.{liveOrders, Decides};
 ghost use Rattle.orders.specs.Promises.{Changes, Clears};
 
 impl Orders {
@@ -45,34 +47,35 @@ impl Orders {
 
     fn judge(self, k: usize, c: Change) -> Verdict
         requires { ⌜ k < symbols ⌝ }
-        ensures { λ r. ⌜ (OrderShelf (shelfAt self k) → Decides (shelfAt self k) r (applyTo (liveOrders (shelfAt self k)) c)) ⌝ }
+        ensures { λ r. ⌜ (Wf self → Decides (shelfAt self k) r (applyTo (liveOrders (shelfAt self k)) c)) ⌝ }
     {
         match c {
             Change::Nothing => judge_nothing(),
             Change::Add(order, buy, price, volume) => {
-                let i = self.find(k, order);
-                let j = self.room(k);
+                let i = find(&self.numbers, &self.lives, &self.spans, k, order);
+                let j = room(&self.lives, k, order);
                 judge_add(i, j, order, buy, price, volume)
             }
             Change::Modify(order, buy, price, volume) => {
-                let i = self.find(k, order);
+                let i = find(&self.numbers, &self.lives, &self.spans, k, order);
                 let x = self.order_at(k, i);
                 judge_modify(i, x, order, buy, price, volume)
             }
             Change::Delete(order) => {
-                let i = self.find(k, order);
+                let i = find(&self.numbers, &self.lives, &self.spans, k, order);
                 judge_delete(i, order)
             }
             Change::Execute(order, volume) => {
-                let i = self.find(k, order);
+                let i = find(&self.numbers, &self.lives, &self.spans, k, order);
                 let x = self.order_at(k, i);
                 judge_execute(i, x, order, volume)
             }
             Change::Replace(old, order, buy, price, volume) => {
-                let i = self.find(k, old);
+                let i = find(&self.numbers, &self.lives, &self.spans, k, old);
                 let x = self.order_at(k, i);
-                let j = self.find(k, order);
-                judge_replace(i, x, j, old, order, buy, price, volume)
+                let j = find(&self.numbers, &self.lives, &self.spans, k, order);
+                let free = room(&self.lives, k, order);
+                judge_replace(i, x, j, free, old, order, buy, price, volume)
             }
         }
     }

@@ -16,6 +16,9 @@ ghost use Rattle.orders.specs.Promises.{fitNumber};
 // Each symbol's own places.
 const ORDERS: usize = 64;
 
+// The same, as searches take it.
+const EACH: u16 = ORDERS as u16;
+
 // The places of all symbols.
 const PLACES: usize = SYMBOLS * ORDERS;
 
@@ -28,8 +31,12 @@ pub struct Order {
     volume: u32,
 }
 
+// The orders, and what searches read of them: their numbers, whether each is live, and, for each home of each symbol, how many places from it on may hold an order of it.
 pub struct Orders {
     places: [Order; PLACES],
+    numbers: [u64; PLACES],
+    lives: [bool; PLACES],
+    spans: [u16; PLACES],
 }
 
 // What is done to a symbol's orders. An order comes as its number, whether it buys, its price and its volume.
@@ -64,7 +71,15 @@ impl Orders {
     {
         let o = no_order();
         let places = [o; PLACES];
-        Orders { places }
+        let numbers = [0; PLACES];
+        let lives = [false; PLACES];
+        let spans = [0; PLACES];
+        Orders {
+            places,
+            numbers,
+            lives,
+            spans,
+        }
     }
 }
 

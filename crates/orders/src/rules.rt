@@ -11,9 +11,13 @@ ghost use Rattle.orders.specs.State.{noOrder};
 ghost use Rattle.orders.specs.Deciding.{OrderShelf, OrderAt, OrderRoom, Decides, liveOrders};
 ghost use Rattle.orders.specs.Rules.{applyTo};
 
-// It fits, and this order goes to this place (ORDERS: to none); or it doesn't fit; or there is no room.
+// It fits: the place `gone` is emptied, then the order goes to its place (ORDERS: none); or it doesn't fit; or there is no room.
 pub(crate) enum Verdict {
-    Fits { place: usize, order: Order },
+    Fits {
+        gone: usize,
+        place: usize,
+        order: Order,
+    },
     Misfit,
     NoRoom,
 }
@@ -42,7 +46,11 @@ pub(crate) fn judge_add(
         price,
         volume,
     };
-    Verdict::Fits { place: j, order: o }
+    Verdict::Fits {
+        gone: ORDERS,
+        place: j,
+        order: o,
+    }
 }
 
 pub(crate) fn judge_modify(
@@ -66,7 +74,11 @@ pub(crate) fn judge_modify(
             price,
             volume,
         };
-        return Verdict::Fits { place: i, order: o };
+        return Verdict::Fits {
+            gone: ORDERS,
+            place: i,
+            order: o,
+        };
     }
     Verdict::Misfit
 }
@@ -78,7 +90,11 @@ pub(crate) fn judge_delete(i: usize, order: u64) -> Verdict
         return Verdict::Misfit;
     }
     let o = no_order();
-    Verdict::Fits { place: i, order: o }
+    Verdict::Fits {
+        gone: ORDERS,
+        place: i,
+        order: o,
+    }
 }
 
 // What is left stands at the order's own price; where nothing is left, the order is gone.
@@ -92,10 +108,11 @@ pub(crate) fn judge_execute(i: usize, x: Order, order: u64, volume: u32) -> Verd
         return Verdict::Misfit;
     }
     if x.volume == volume {
-        let gone = no_order();
+        let none = no_order();
         return Verdict::Fits {
+            gone: ORDERS,
             place: i,
-            order: gone,
+            order: none,
         };
     }
     let o = Order {
@@ -105,21 +122,27 @@ pub(crate) fn judge_execute(i: usize, x: Order, order: u64, volume: u32) -> Verd
         price: x.price,
         volume: x.volume - volume,
     };
-    Verdict::Fits { place: i, order: o }
+    Verdict::Fits {
+        gone: ORDERS,
+        place: i,
+        order: o,
+    }
 }
 
-// The old order lies at i and goes first, so the new number may lie there too.
+// The old order lies at i and goes first, so the new number may lie there too. The new order goes where there is room for its number, at `free`; where every place is live,
+// and where its number stays, it takes the old one's place.
 pub(crate) fn judge_replace(
     i: usize,
     x: Order,
     j: usize,
+    free: usize,
     old: u64,
     order: u64,
     buy: bool,
     price: u32,
     volume: u32,
 ) -> Verdict
-    ensures { λ r. ⌜ ((l : List Order) → OrderShelf l → OrderAt old l i → OrderAt order l j → x ≡ getD l i noOrder → Decides l r (applyTo (liveOrders l) (Change.Replace old order buy price volume))) ⌝ }
+    ensures { λ r. ⌜ ((l : List Order) → OrderShelf l → OrderAt old l i → OrderAt order l j → OrderRoom l free → x ≡ getD l i noOrder → Decides l r (applyTo (liveOrders l) (Change.Replace old order buy price volume))) ⌝ }
 {
     if ORDERS <= i {
         return Verdict::Misfit;
@@ -133,10 +156,25 @@ pub(crate) fn judge_replace(
             volume,
         };
         if ORDERS <= j {
-            return Verdict::Fits { place: i, order: o };
+            if ORDERS <= free {
+                return Verdict::Fits {
+                    gone: ORDERS,
+                    place: i,
+                    order: o,
+                };
+            }
+            return Verdict::Fits {
+                gone: i,
+                place: free,
+                order: o,
+            };
         }
         if i == j {
-            return Verdict::Fits { place: i, order: o };
+            return Verdict::Fits {
+                gone: ORDERS,
+                place: i,
+                order: o,
+            };
         }
         return Verdict::Misfit;
     }
@@ -148,6 +186,7 @@ pub(crate) fn judge_nothing() -> Verdict
 {
     let o = no_order();
     Verdict::Fits {
+        gone: ORDERS,
         place: ORDERS,
         order: o,
     }

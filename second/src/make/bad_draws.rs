@@ -72,6 +72,7 @@ mod tests {
             random: Random::new(1, "bad fields"),
             edges: false,
             market,
+            pool: None,
         };
         let mut drawn = HashSet::new();
         for _ in 0..10_000 {

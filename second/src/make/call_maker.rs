@@ -105,14 +105,22 @@ impl Maker {
 
     pub fn step(&mut self, bytes: &[u8]) {
         let (at, bytes) = self.placed(bytes);
-        let _ = self.probe.step(&bytes, at);
-        self.list.step(at, &bytes);
+        self.step_at(at, &bytes);
     }
 
     pub fn run(&mut self, bytes: &[u8]) {
         let (at, bytes) = self.placed(bytes);
-        self.probe.run(&bytes, at);
-        self.list.run(at, &bytes);
+        self.run_at(at, &bytes);
+    }
+
+    pub fn step_at(&mut self, at: usize, bytes: &[u8]) {
+        let _ = self.probe.step(bytes, at);
+        self.list.step(at, bytes);
+    }
+
+    pub fn run_at(&mut self, at: usize, bytes: &[u8]) {
+        self.probe.run(bytes, at);
+        self.list.run(at, bytes);
     }
 
     pub fn read(&mut self, bytes: &[u8]) {

@@ -3,6 +3,7 @@
 use super::call_list::CallList;
 use super::call_maker::Maker;
 use super::fills;
+use super::homes;
 use super::outputs;
 use super::random::Random;
 use super::registers;
@@ -17,23 +18,28 @@ pub enum CallKind {
     Full,
     Edges,
     Mixed,
+    Homes,
 }
 
 /// The kinds by name.
-pub const CALL_KINDS: [(&str, CallKind); 5] = [
+pub const CALL_KINDS: [(&str, CallKind); 6] = [
     ("plain", CallKind::Plain),
     ("faults", CallKind::Faults),
     ("full", CallKind::Full),
     ("edges", CallKind::Edges),
     ("mixed", CallKind::Mixed),
+    ("homes", CallKind::Homes),
 ];
+
+/// How many of the kinds, from the first on, a mixed list is mixed from.
+const MIXED: usize = 4;
 
 /// A file of `count` calls, or fewer where they would make it too long for the probe.
 pub fn calls(seed: u64, kind: CallKind, count: usize) -> Vec<u8> {
     list(seed, kind, count).into_bytes()
 }
 
-fn list(seed: u64, kind: CallKind, count: usize) -> CallList {
+pub(super) fn list(seed: u64, kind: CallKind, count: usize) -> CallList {
     let mut maker = Maker::new(Random::new(seed, &format!("calls {kind:?}")));
     let with_faults = matches!(kind, CallKind::Faults | CallKind::Mixed);
     maker.any_market = with_faults;
@@ -44,7 +50,7 @@ fn list(seed: u64, kind: CallKind, count: usize) -> CallList {
     let mut now = kind;
     while maker.list.count() < count && maker.list.len() < LARGEST_FILE {
         if kind == CallKind::Mixed && (now == kind || maker.random().one_in(20)) {
-            now = maker.random().pick(&CALL_KINDS[..4]).1;
+            now = maker.random().pick(&CALL_KINDS[..MIXED]).1;
         }
         push(&mut maker, now);
     }
@@ -65,7 +71,8 @@ fn list(seed: u64, kind: CallKind, count: usize) -> CallList {
     maker.list
 }
 
-/// Registers some symbols, eight where books are to be full, and then tries a ninth.
+/// Registers some symbols, eight where books are to be full, and then tries a ninth. Books of few
+/// families begin near full.
 fn begin(maker: &mut Maker, kind: CallKind) {
     let symbols = match kind {
         CallKind::Full => SYMBOLS,
@@ -80,6 +87,9 @@ fn begin(maker: &mut Maker, kind: CallKind) {
     if symbols == SYMBOLS {
         let ninth = registers::good(maker.random());
         maker.register(ninth);
+    }
+    if kind == CallKind::Homes {
+        homes::begin(maker);
     }
 }
 
@@ -102,6 +112,7 @@ fn push(maker: &mut Maker, kind: CallKind) {
     match kind {
         CallKind::Faults => push_fault(maker),
         CallKind::Full if maker.random().one_in(4) => fills::push_fill(maker),
+        CallKind::Homes => homes::push_home(maker),
         _ => push_plain(maker),
     }
 }

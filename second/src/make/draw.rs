@@ -1,5 +1,6 @@
 //! Values of fields, ordinary ones or those at the edge of what the field can hold.
 
+use super::families::Pool;
 use super::messages::{BUY, SELL};
 use super::random::Random;
 use crate::line::LAST_SECOND;
@@ -39,6 +40,8 @@ pub struct Draw {
     pub edges: bool,
     /// The market whose conditions are drawn.
     pub market: Market,
+    /// The order numbers that are drawn, where they are to be of few families.
+    pub pool: Option<Pool>,
 }
 
 impl Draw {
@@ -88,6 +91,9 @@ impl Draw {
 
     /// One that may be live or used: low halves meet often.
     pub fn order(&mut self) -> u64 {
+        if let Some(pool) = &self.pool {
+            return pool.order(&mut self.random);
+        }
         if self.at_edge() {
             return self.random.pick(&ORDER_EDGES);
         }

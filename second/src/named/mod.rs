@@ -1,5 +1,6 @@
-//! Small files named after the cases of document 01, "A day in symbol ABC", its easy errors and the
-//! corners of its rules. `NAME.feed` is for the program, `NAME.calls` for the probe.
+//! Files named after the cases of document 01, "A day in symbol ABC", its easy errors and the corners
+//! of its rules and of the requests; most are small. `NAME.feed` is for the program, `NAME.calls` for
+//! the probe.
 
 mod bad_fields;
 mod book;
@@ -7,12 +8,14 @@ mod codes;
 mod conditions;
 mod day;
 mod fields;
+mod homes;
 mod listed;
 mod markets;
 mod page;
 mod printout;
 mod record;
 mod registering;
+mod script;
 mod stream;
 
 use std::io;
@@ -40,6 +43,7 @@ impl Cases {
         codes::add_to(&mut cases);
         markets::add_to(&mut cases);
         book::add_to(&mut cases);
+        homes::add_to(&mut cases);
         record::add_to(&mut cases);
         registering::add_to(&mut cases);
         page::add_to(&mut cases);

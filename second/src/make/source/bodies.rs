@@ -68,7 +68,7 @@ impl Source {
     }
 
     /// One of the live orders; there is one.
-    fn live_order(&mut self, index: u32) -> Order {
+    pub fn live_order(&mut self, index: u32) -> Order {
         let place = self.draw.random.below(self.live(index).len());
         self.live(index)[place]
     }
@@ -161,12 +161,15 @@ impl Source {
     }
 
     /// An order number that is not live; it may have been.
-    fn unused_order(&mut self, index: u32) -> u64 {
-        for _ in 0..3 {
+    pub fn unused_order(&mut self, index: u32) -> u64 {
+        let mut tries = 0;
+        // A pool has more orders than a book has room for; other draws may all be live.
+        while self.draw.pool.is_some() || tries < 3 {
             let order = self.draw.order();
             if !self.is_live(index, order) {
                 return order;
             }
+            tries += 1;
         }
         loop {
             let order = self.draw.random.u64();

@@ -30,6 +30,7 @@ impl Source {
                 random,
                 edges: false,
                 market,
+                pool: None,
             },
             reader: Reader::new(market),
             indices: Vec::new(),

@@ -1,4 +1,5 @@
 -- Each change is judged by what the searches found.
+use Rattle.orders.proofs.Sizes.{own-shelf}
 use borrow.Author.Needs.{needs}
 use Rattle.orders.proofs.Orders.judge.Statement.{statement}
 use Rattle.orders.proofs.Orders.judge.Tie as tie
@@ -66,26 +67,29 @@ order-at-requires-3 c κs = search needs
 find-requires-6 : tie.Need-find-requires-6
 find-requires-6 c κs = search needs
 
+room-requires-2 : tie.Need-room-requires-2
+room-requires-2 c κs = search needs
+
 judge-replace-requires : tie.Need-judge-replace-requires
 judge-replace-requires c κs = search needs
 
 returns : tie.Need-returns
-returns c w = rw (c .before .enum-told .given .1) (c .judge-nothing .ensures _ w)
+returns c w = let s = c .before .before .before in rw (c .before .enum-told .given .1) (c .judge-nothing .ensures _ (own-shelf (s .args .t1) _ (s .good .0) _ (s .pre) w))
 
 returns-2 : tie.Need-returns-2
-returns-2 c w = rw (c .before .before .before .before .c .given .1) (c .judge-add .ensures _ w (c .before .before .find .ensures) (c .before .room .ensures))
+returns-2 c w = let s = c .before .before .before .before .before .before .before .before .before .before .before .before in rw (c .before .before .before .before .before .before .before .before .before .before .c .given .1) (c .judge-add .ensures _ (own-shelf (s .args .t1) _ (s .good .0) _ (s .pre) w) (c .before .before .before .before .find .ensures _ (w .mirrored) (w .near _ (s .pre))) (c .before .room .ensures _ _ (w .mirrored)))
 
 returns-3 : tie.Need-returns-3
-returns-3 c w = rw (c .before .before .before .before .c2 .given .1) (c .judge-modify .ensures _ w (c .before .before .find2 .ensures) (c .before .order-at .ensures))
+returns-3 c w = let s = c .before .before .before .before .before .before .before .before .before .before in rw (c .before .before .before .before .before .before .before .before .c2 .given .1) (c .judge-modify .ensures _ (own-shelf (s .args .t1) _ (s .good .0) _ (s .pre) w) (c .before .before .find2 .ensures _ (w .mirrored) (w .near _ (s .pre))) (c .before .order-at .ensures))
 
 returns-4 : tie.Need-returns-4
-returns-4 c w = rw (c .before .before .before .c3 .given .1) (c .judge-delete .ensures _ w (c .before .find3 .ensures))
+returns-4 c w = let s = c .before .before .before .before .before .before .before .before .before in rw (c .before .before .before .before .before .before .before .c3 .given .1) (c .judge-delete .ensures _ (own-shelf (s .args .t1) _ (s .good .0) _ (s .pre) w) (c .before .find3 .ensures _ (w .mirrored) (w .near _ (s .pre))))
 
 returns-5 : tie.Need-returns-5
-returns-5 c w = rw (c .before .before .before .before .c4 .given .1) (c .judge-execute .ensures _ w (c .before .before .find4 .ensures) (c .before .order-at2 .ensures))
+returns-5 c w = let s = c .before .before .before .before .before .before .before .before .before .before in rw (c .before .before .before .before .before .before .before .before .c4 .given .1) (c .judge-execute .ensures _ (own-shelf (s .args .t1) _ (s .good .0) _ (s .pre) w) (c .before .before .find4 .ensures _ (w .mirrored) (w .near _ (s .pre))) (c .before .order-at2 .ensures))
 
 returns-6 : tie.Need-returns-6
-returns-6 c w = rw (c .before .before .before .before .before .c5 .given .1) (c .judge-replace .ensures _ w (c .before .before .before .find5 .ensures) (c .before .find6 .ensures) (c .before .before .order-at3 .ensures))
+returns-6 c w = let s = c .before .before .before .before .before .before .before .before .before .before .before .before .before .before .before .before .before .before in rw (c .before .before .before .before .before .before .before .before .before .before .before .before .before .before .before .before .c5 .given .1) (c .judge-replace .ensures _ (own-shelf (s .args .t1) _ (s .good .0) _ (s .pre) w) (c .before .before .before .before .before .before .before .before .before .before .find5 .ensures _ (w .mirrored) (w .near _ (s .pre))) (c .before .before .before .before .find6 .ensures _ (w .mirrored) (w .near _ (s .pre))) (c .before .room2 .ensures _ _ (w .mirrored)) (c .before .before .before .before .before .before .before .before .before .order-at3 .ensures))
 
 pub judge-spec : {M : Type 1} → statement M
 judge-spec =
@@ -112,6 +116,7 @@ judge-spec =
     find-requires-5
     order-at-requires-3
     find-requires-6
+    room-requires-2
     judge-replace-requires
     returns
     returns-2

@@ -1,0 +1,63 @@
+// The home of a number, and the way round a shelf from it.
+ghost use mathlib.Core.Path.{_≡_};
+ghost use Prim.Native.Nat.{_<_, _≤_, min};
+ghost use Rattle.places.specs.Homes.{homeOf, roundFrom, awayFrom, outside};
+
+// The place at which the search for a number begins. Numbers that follow each other, and those that differ in one half, lie apart.
+pub fn home_of(number: u64, each: u16) -> usize
+    ensures { λ r. ⌜ r ≡ homeOf each number ⌝ }
+{
+    let folded = (number % 4294967296 + number / 4294967296) % 4294967296;
+    let spread = folded * 2654435769 % 4294967296;
+    let places = each as u64;
+    (spread * places / 4294967296) as usize
+}
+
+// The place j places on from a home.
+pub(crate) fn round_from(n: usize, home: usize, j: usize) -> usize
+    requires { ⌜ (home < n) × (j < n) × (n ≤ 65535) ⌝ }
+    ensures { λ r. ⌜ (r ≡ roundFrom n home j) × (r < n) ⌝ }
+{
+    let i = home + j;
+    if i < n { i } else { i - n }
+}
+
+// How many places on from a home place i is.
+pub(crate) fn away_from(n: usize, home: usize, i: usize) -> usize
+    requires { ⌜ (home < n) × (i < n) × (n ≤ 65535) ⌝ }
+    ensures { λ r. ⌜ (r ≡ awayFrom n home i) × (r < n) ⌝ }
+{
+    if home <= i { i - home } else { i + n - home }
+}
+
+// Whether there is no such shelf in a list of this length.
+pub(crate) fn lies_outside(from: usize, n: usize, length: usize) -> bool
+    ensures { λ r. ⌜ r ≡ outside from n length ⌝ }
+{
+    if n == 0 {
+        return true;
+    }
+    if length < from {
+        return true;
+    }
+    length - from < n
+}
+
+pub(crate) fn least(a: usize, b: usize) -> usize
+    ensures { λ r. ⌜ r ≡ min a b ⌝ }
+{
+    if a < b { a } else { b }
+}
+
+// A span reaches no further than once round.
+pub(crate) fn capped(span: u16, each: u16) -> usize
+    ensures { λ r. ⌜ r ≡ min span each ⌝ }
+{
+    if span < each { wide(span) } else { wide(each) }
+}
+
+pub(crate) fn wide(x: u16) -> usize
+    ensures { λ r. ⌜ r ≡ x ⌝ }
+{
+    x as usize
+}

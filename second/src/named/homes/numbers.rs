@@ -1,0 +1,142 @@
+//! Numbers at the edges of what 64 bits hold, and rows of numbers.
+
+use super::emptied::{every_second, scattered};
+use super::{miss, named, roomful, Named, FAMILY, ROOM};
+use crate::book::LIVE_ORDERS;
+use crate::make::messages::{BUY, SELL};
+use crate::named::script::Script;
+
+/// The second and the third are of one family.
+const EDGES: [u64; 4] = [0, 1, 1 << 32, u64::MAX];
+
+/// Places of the four, none of them first twice.
+const ORDERS: [[usize; 4]; 4] = [[0, 1, 2, 3], [3, 2, 1, 0], [1, 3, 0, 2], [2, 0, 3, 1]];
+
+pub fn scripts() -> Vec<Named> {
+    let mut scripts = Vec::new();
+    for (name, end) in ENDS {
+        scripts.push(named(&format!("orders-at-the-edges-{name}"), |script| {
+            for coming in ORDERS {
+                for going in ORDERS {
+                    come_and_go(script, coming, going, end);
+                }
+            }
+        }));
+    }
+    scripts.push(named("orders-at-the-edges-once", |script| {
+        come_and_go(script, ORDERS[0], ORDERS[2], Script::delete);
+        come_and_go(script, ORDERS[3], ORDERS[1], Script::execute_all);
+    }));
+    scripts.push(named(
+        "orders-at-the-edges-in-a-full-family",
+        edges_in_a_full_book,
+    ));
+    for (name, change) in OF_ORDER_0 {
+        scripts.push(named(&format!("{name}-in-an-empty-book"), |script| {
+            refused(script, change);
+        }));
+        scripts.push(named(&format!("{name}-after-it-went"), |script| {
+            script.fill(&EDGES);
+            script.empty(&EDGES);
+            refused(script, change);
+        }));
+    }
+    for (name, number) in ROWS {
+        scripts.push(named(name, |script| two_rows(script, number)));
+    }
+    scripts
+}
+
+/// How an order goes.
+type End = fn(&mut Script, u64);
+
+const ENDS: [(&str, End); 3] = [
+    ("deleted", Script::delete),
+    ("executed", Script::execute_all),
+    ("replaced", |script, order| {
+        script.replace(order, order ^ (1 << 40), 9);
+        script.delete(order ^ (1 << 40));
+    }),
+];
+
+fn come_and_go(script: &mut Script, coming: [usize; 4], going: [usize; 4], end: End) {
+    for (place, volume) in coming.into_iter().zip(1..) {
+        let side = if place % 2 == 0 { BUY } else { SELL };
+        script.add(EDGES[place], side, 10 * volume);
+    }
+    script.find_all();
+    for place in going {
+        script.modify(EDGES[place], 20 + place as u32);
+        script.execute(EDGES[place], 3);
+        end(script, EDGES[place]);
+        script.find_all();
+    }
+}
+
+/// The four take the places of others of the family, and those come back.
+fn edges_in_a_full_book(script: &mut Script) {
+    let family = roomful(FAMILY);
+    script.fill(&family);
+    let others = [family[0], family[31], family[32], family[63]];
+    for (old, new) in others.into_iter().zip(EDGES) {
+        script.replace(old, new, 200);
+    }
+    script.find_all();
+    for (old, new) in others.into_iter().zip(EDGES) {
+        script.delete(new);
+        script.add(old, SELL, 300);
+    }
+    script.find_all();
+    miss(script, 0);
+}
+
+/// A change of order 0 where it is not live: an empty place must not be taken for it.
+type Change = fn(&mut Script);
+
+const OF_ORDER_0: [(&str, Change); 4] = [
+    ("a-modify-of-order-0", |script| script.modify(0, 1)),
+    ("a-delete-of-order-0", |script| script.delete(0)),
+    ("an-execute-of-order-0", |script| script.execute(0, 1)),
+    ("a-replace-of-order-0", |script| script.replace(0, 1, 1)),
+];
+
+fn refused(script: &mut Script, change: Change) {
+    change(script);
+    script.add(0, BUY, 10);
+    script.clear();
+    script.add(0, BUY, 20);
+    script.modify(0, 30);
+}
+
+/// The numbers of a row, by their count from 1 on.
+type Row = fn(u64) -> u64;
+
+const ROWS: [(&str, Row); 5] = [
+    ("consecutive-numbers", |count| count),
+    ("multiples-of-64", |count| 64 * count),
+    ("multiples-of-512", |count| 512 * count),
+    ("numbers-of-other-high-halves", |count| (count << 32) | 5),
+    ("consecutive-numbers-to-the-last", |count| {
+        u64::MAX - 2 * u64::from(ROOM) + count
+    }),
+];
+
+/// A book of a row's first numbers, one of the next ones, and one of both.
+fn two_rows(script: &mut Script, number: Row) {
+    let row: Vec<u64> = (1..=u64::from(2 * ROOM)).map(number).collect();
+    let (first, next) = row.split_at(LIVE_ORDERS);
+    script.fill(first);
+    script.find_all();
+    for place in every_second() {
+        script.delete(first[place]);
+        script.add(next[place], BUY, 100);
+    }
+    script.find_all();
+    for place in scattered() {
+        script.delete(next[place]);
+    }
+    script.fill(&row[LIVE_ORDERS / 2..][..LIVE_ORDERS]);
+    script.find_all();
+    miss(script, first[0]);
+    script.fill(&next[1..]);
+}
