@@ -1,0 +1,70 @@
+-- By computation: two live orders of one home on a shelf of four places, the second not at it but round the end, are mirrored and near, so that what a search asks for is met by more than
+-- empty places. It is asked for with reason: where the home's span reaches the first order alone, the second is live and is not found.
+use mathlib.Core.Bool.{Bool, true, false, false≢true}
+use mathlib.Core.List.{List, [], _∷_}
+use mathlib.Core.Path.{_≡_, refl}
+use Prim.Native.Nat.{ℕ, zero, suc, _+_, _<_}
+use native.Mathlib.Omega.{arith}
+use lib.ListN.{getD}
+use Rattle.places.specs.Homes.{homeOf, roundFrom, awayFrom, firstRound, lastRound, outside, soughtIn, freeIn, raisedTo, loweredTo, Mirrored, Near}
+use Rattle.orders.specs.State.{noOrder, orderNumber, orderLive}
+use Rattle.orders.specs.Rules.{orderOf}
+use Rattle.orders.specs.declared.Order.{Order}
+
+-- the halves of both numbers have the sum 3
+abbrev at-home : ℕ
+at-home = 3
+
+abbrev beside : ℕ
+beside = 4294967298
+
+abbrev shelf : List Order
+shelf = orderOf beside true 10000 200 ∷ noOrder ∷ noOrder ∷ orderOf at-home true 10000 100 ∷ []
+
+abbrev numbers : List ℕ
+numbers = beside ∷ 0 ∷ 0 ∷ at-home ∷ []
+
+abbrev lives : List Bool
+lives = true ∷ false ∷ false ∷ true ∷ []
+
+abbrev spans : List ℕ
+spans = 0 ∷ 0 ∷ 0 ∷ 2 ∷ []
+
+pub one-home : (homeOf 4 at-home ≡ 3) × (homeOf 4 beside ≡ 3)
+unfolding homeOf
+one-home = (refl, refl)
+
+pub two-mirrored : Mirrored orderNumber orderLive shelf numbers lives
+two-mirrored = record { numbers = refl; lives = refl }
+
+near-each : (i : ℕ) → i < 4 → getD lives (0 + i) false ≡ true → awayFrom 4 (homeOf 4 (getD numbers (0 + i) 0)) i < getD spans (0 + homeOf 4 (getD numbers (0 + i) 0)) 0
+unfolding homeOf awayFrom
+near-each zero h l = omega arith
+near-each (suc zero) h l = absurd (false≢true l)
+near-each (suc (suc zero)) h l = absurd (false≢true l)
+near-each (suc (suc (suc zero))) h l = omega arith
+near-each (suc (suc (suc (suc i)))) h l = absurd (omega (arith, h))
+
+pub two-near : Near numbers lives spans 0 4
+two-near = record { near = near-each }
+
+pub found-round-the-end : soughtIn numbers lives spans 0 4 beside ≡ 0
+unfolding soughtIn outside homeOf firstRound roundFrom
+found-round-the-end = refl
+
+pub missed-past-a-span : soughtIn numbers lives (0 ∷ 0 ∷ 0 ∷ 1 ∷ []) 0 4 beside ≡ 4
+unfolding soughtIn outside homeOf firstRound roundFrom
+missed-past-a-span = refl
+
+pub room-from-the-home-on : freeIn lives 0 4 at-home ≡ 1
+unfolding freeIn outside homeOf firstRound roundFrom
+room-from-the-home-on = refl
+
+-- the second came, and goes again
+pub raised-as-far-as-it-lies : raisedTo 4 beside true 0 1 ≡ 2
+unfolding raisedTo homeOf awayFrom
+raised-as-far-as-it-lies = refl
+
+pub lowered-to-the-first : loweredTo (0 ∷ 0 ∷ 0 ∷ at-home ∷ []) (false ∷ false ∷ false ∷ true ∷ []) 0 4 beside 2 ≡ 1
+unfolding loweredTo outside homeOf lastRound roundFrom
+lowered-to-the-first = refl
