@@ -89,7 +89,7 @@ mod tests {
             _ if name.ends_with("order-0-after-it-went") => 4,
             _ if name.ends_with("order-0-in-an-empty-book") => 1,
             _ if name.contains("-among-three-") => 3,
-            _ if name.starts_with("a-family-of-63") => LIVE_ORDERS - 1,
+            _ if name.starts_with("a-family-less-one") => LIVE_ORDERS - 1,
             _ => LIVE_ORDERS,
         }
     }

@@ -10,7 +10,7 @@ pub fn scripts() -> Vec<Named> {
     let mut scripts = Vec::new();
     for (name, live) in [
         ("a-full-family", LIVE_ORDERS),
-        ("a-family-of-63", LIVE_ORDERS - 1),
+        ("a-family-less-one", LIVE_ORDERS - 1),
     ] {
         let orders = &roomful(FAMILY)[..live];
         scripts.push(named(&format!("{name}-replaced-one-by-one"), |script| {
@@ -120,7 +120,7 @@ fn of_a_replaced_order() -> Vec<Named> {
     let mut scripts = Vec::new();
     for (book, live, changes) in [
         ("three", 3, &CHANGES[..]),
-        ("64", LIVE_ORDERS, &CHANGES[..1]),
+        ("a-roomful", LIVE_ORDERS, &CHANGES[..1]),
     ] {
         for (home, new) in [
             ("of-its-family", unused(FAMILY, 0)),
