@@ -13,7 +13,7 @@ use Rattle.places.proofs.Living.{Lies, look-none}
 use Rattle.places.proofs.Landing.{placed-nowhere, lands-nowhere, missing, found, crowded, roomy, lands-new, lands-out, lands-changed, lands-instead, lands-moved, absent-after, same-after, still-there}
 use Rattle.orders.specs.State.{ordersEach, noOrder, orderNumber, orderLive}
 use Rattle.orders.specs.Rules.{applyTo, orderOf, repriced, less}
-use Rattle.orders.specs.Deciding.{OrderShelf, OrderAt, OrderRoom, liveOrders, Decides, lands, misfits, crowds}
+use Rattle.orders.specs.Deciding.{OrderShelf, OrderAt, OrderRoom, liveOrders, Decides, stays, lands, misfits, crowds}
 use Rattle.orders.specs.declared.Order.{Order}
 use Rattle.orders.specs.declared.rules.Verdict.{Verdict}
 use Rattle.orders.specs.declared.Change.{Change}
@@ -136,7 +136,7 @@ module _ (l : List Order) (w : OrderShelf l) where
           replace-twice g ne =
               rw (hit n i at h .looked, t, hit n i at h .removed, still-there orderNumber orderLive noOrder refl ordersEach l w n i at h o refl j there g ne .looked) misfits
 
-  -- ---- the rest change no order
-  pub nothing-fits : (o : Order) → Decides l (Verdict.Fits ordersEach ordersEach o) (applyTo (liveOrders l) Change.Nothing)
-  unfolding applyTo
-  nothing-fits o = alone (lands-nowhere orderNumber orderLive noOrder refl ordersEach l w o)
+-- ---- the rest change no order
+pub nothing-fits : (l : List Order) → Decides l Verdict.Stays (applyTo (liveOrders l) Change.Nothing)
+unfolding applyTo
+nothing-fits l = stays

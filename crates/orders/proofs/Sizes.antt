@@ -11,8 +11,8 @@ use Rattle.places.specs.Places.{symbols}
 use Rattle.places.specs.Homes.{homeOf}
 use Rattle.places.proofs.Rounds.{home-within}
 use Rattle.places.proofs.EightShelves.{shelf-reach, whole-shelf}
-use Rattle.orders.specs.State.{ordersEach, orderNumber, orderLive, shelfAt, Wf}
-use Rattle.orders.specs.Deciding.{OrderShelf}
+use Rattle.orders.specs.State.{ordersEach, orderNumber, orderLive, Wf}
+use Rattle.orders.specs.Deciding.{Searchable}
 use Rattle.orders.specs.declared.Orders.{Orders}
 use Rattle.orders.proofs.Storing.{Sized}
 use Rattle.orders.proofs.Orders.{the-type}
@@ -31,9 +31,9 @@ module _ (b : Orders) (vs : List Val) (g : Is (row the-type) b vs) where
   pub orders-reach : (k : ℕ) → k < symbols → k * ordersEach + ordersEach ≤ length (b .places)
   orders-reach k h = shelf-reach ordersEach k (b .places) places-size h
 
-  -- and in a sound state it is a whole one
-  pub own-shelf : (k : ℕ) → k < symbols → Wf b → OrderShelf (shelfAt b k)
-  own-shelf k h w = whole-shelf orderNumber orderLive ordersEach (b .places) k (w .singles) h places-size
+  -- and in a sound state it can be searched
+  pub searchable : (k : ℕ) → k < symbols → Wf b → Searchable (b .places) (b .numbers) (b .lives) (b .spans) k
+  searchable k h w = record { whole = whole-shelf orderNumber orderLive ordersEach (b .places) k (w .singles) h places-size; mirrored = w .mirrored; near = w .near k h }
 
 -- a home lies within a shelf
 pub home-in : (h number : ℕ) → h ≡ homeOf ordersEach number → h < ordersEach

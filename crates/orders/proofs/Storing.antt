@@ -19,7 +19,7 @@ use Rattle.places.proofs.Mirroring.{mirrored-set, mirrored-emptied}
 use Rattle.places.proofs.EightShelves.{shelf-reach, nothing-past, store-own, store-other, store-singles, emptied-own, emptied-other, emptied-singles}
 use Rattle.orders.specs.State.{ordersEach, noOrder, orderNumber, orderLive, shelfAt, liveAt, Wf}
 use Rattle.orders.specs.Rules.{applyTo}
-use Rattle.orders.specs.Deciding.{liveOrders, Decides, lands, misfits, crowds, withOrder, settledAt, emptiedTo}
+use Rattle.orders.specs.Deciding.{liveOrders, Decides, stays, lands, misfits, crowds, withOrder, settledAt, emptiedTo}
 use Rattle.orders.specs.Promises.{fitNumber, Obeys, Changes, Clears}
 use Rattle.orders.specs.declared.Order.{Order}
 use Rattle.orders.specs.declared.Orders.{Orders}
@@ -99,8 +99,9 @@ module _ (b : Orders) (k : ℕ) (h : k < symbols) (s : Sized b) (gone place : �
 
 module _ (b : Orders) (k : ℕ) (h : k < symbols) (s : Sized b) where
   settled-obeys : (v : Verdict) (x : Fit (List Order)) → Decides (shelfAt b k) v x → Wf b → Obeys b k x (settledAt b k v)
-  unfolding fitted
+  unfolding fitted liveAt
   settled-obeys v x (lands {gone = gone} {place = place} {o = o} {rest = rest} {os = os} p q) w = lands-obeys b k h s gone place o rest os p q w
+  settled-obeys v x stays w = record { wf = w; fit = refl; own = refl; others = λ m ne. refl }
   settled-obeys v x misfits w = record { wf = w; fit = refl; own = refl; others = λ m ne. refl }
   settled-obeys v x crowds w = record { wf = w; fit = refl; own = refl; others = λ m ne. refl }
 
@@ -111,6 +112,7 @@ settled-once b k v gone place o e h = rw (e, le-ltb gone ordersEach h)
 
 settled-kept : (b : Orders) (k : ℕ) (v : Verdict) → fitNumber (settledAt b k v .fit) ≢ 0 → settledAt b k v .orders ≡ b
 settled-kept b k (Verdict.Fits gone i o) ne = absurd (ne refl)
+settled-kept b k Verdict.Stays ne = absurd (ne refl)
 settled-kept b k Verdict.Misfit ne = refl
 settled-kept b k Verdict.NoRoom ne = refl
 

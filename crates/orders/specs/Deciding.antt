@@ -1,16 +1,17 @@
 -- Decide, then store: the contracts of searches, of decisions on small values and of stores. No rule of document 01 stands here, and nothing here need be believed.
-use mathlib.Core.Bool.{false, cond}
+use mathlib.Core.Bool.{Bool, false, cond}
 use mathlib.Core.List.{List}
 use Prim.Native.Nat.{ℕ, _+_, _*_}
 use lib.Dec.{ltb}
 use lib.ListN.{getD, set}
 use Rattle.feed.specs.Reader.{Fit, fits, misfit, no-room}
-use Rattle.places.specs.Places.{inOrder, Shelf, FoundAt, FreeAt, placed, placedIn, Lands, emptied}
-use Rattle.places.specs.Homes.{raisedAt, loweredAt}
+use Rattle.places.specs.Places.{shelf, inOrder, Shelf, FoundAt, FreeAt, placed, placedIn, Lands, emptied}
+use Rattle.places.specs.Homes.{raisedAt, loweredAt, Mirrored, Near}
 use Rattle.orders.specs.State.{ordersEach, noOrder, orderNumber, orderLive}
 use Rattle.orders.specs.declared.Fit as code
 use Rattle.orders.specs.declared.Order.{Order}
 use Rattle.orders.specs.declared.Orders.{Orders}
+use Rattle.orders.specs.declared.Change.{Change}
 use Rattle.orders.specs.declared.Changed.{Changed}
 use Rattle.orders.specs.declared.rules.Verdict.{Verdict}
 
@@ -27,8 +28,24 @@ OrderAt n l i = FoundAt orderNumber orderLive noOrder ordersEach n l i
 abbrev pub OrderRoom : List Order → ℕ → Type 0
 OrderRoom l i = FreeAt orderLive noOrder ordersEach l i
 
+-- the order that a change finds first: its own, or the old one of a replace
+abbrev pub named : Change → ℕ
+named Change.Nothing = 0
+named (Change.Add n buy p v) = n
+named (Change.Modify n buy p v) = n
+named (Change.Delete n) = n
+named (Change.Execute n v) = n
+named (Change.Replace old n buy p v) = old
+
+-- what searches read is that of the orders, and those of symbol k lie where searches look for them
+pub record Searchable (l : List Order) (numbers : List ℕ) (lives : List Bool) (spans : List ℕ) (k : ℕ) : Type 0 where
+  pub whole : OrderShelf (shelf ordersEach k l)
+  pub mirrored : Mirrored orderNumber orderLive l numbers lives
+  pub near : Near numbers lives spans (k * ordersEach) ordersEach
+
 -- ---- a verdict is what the rule says of the live orders: one place is emptied, then the order goes to its own
 pub data Decides (l : List Order) : Verdict → Fit (List Order) → Type 0 where
+  stays : Decides l Verdict.Stays (fits (liveOrders l))
   lands : {gone place : ℕ} {o : Order} {rest os : List Order} → Lands orderNumber orderLive ordersEach l gone noOrder rest → Lands orderNumber orderLive ordersEach (placed ordersEach l gone noOrder) place o os
       → Decides l (Verdict.Fits gone place o) (fits os)
   misfits : Decides l Verdict.Misfit misfit
@@ -51,6 +68,7 @@ withOrder b k i o = record {
 
 abbrev pub settledAt : Orders → ℕ → Verdict → Changed
 settledAt b k (Verdict.Fits gone place o) = record { orders = withOrder (withOrder b k gone noOrder) k place o; fit = code.Fit.Fits }
+settledAt b k Verdict.Stays = record { orders = b; fit = code.Fit.Fits }
 settledAt b k Verdict.Misfit = record { orders = b; fit = code.Fit.Misfit }
 settledAt b k Verdict.NoRoom = record { orders = b; fit = code.Fit.NoRoom }
 

@@ -2,22 +2,28 @@
 use crate::Change;
 use crate::Changed;
 use crate::Fit;
+use crate::ORDERS;
+use crate::Order;
 use crate::Orders;
+use crate::PLACES;
 use crate::rules::Verdict;
 use crate::rules::judge_add;
 use crate::rules::judge_delete;
 use crate::rules::judge_execute;
 use crate::rules::judge_modify;
-use crate::rules::judge_nothing;
 use crate::rules::judge_replace;
 use crate::search::find;
+use crate::search::place_or_first;
 use crate::search::room;
 use places::SYMBOLS;
+ghost use mathlib.Core.Path.{_≡_};
+ghost use mathlib.Core.List.{List};
 ghost use Prim.Native.Nat.{_<_};
-ghost use Rattle.places.specs.Places.{symbols};
-ghost use Rattle.orders.specs.State.{shelfAt, Wf};
+ghost use lib.ListN.{getD};
+ghost use Rattle.places.specs.Places.{symbols, shelf};
+ghost use Rattle.orders.specs.State.{ordersEach, noOrder};
 ghost use Rattle.orders.specs.Rules.{applyTo};
-ghost use Rattle.orders.specs.Deciding.{liveOrders, Decides};
+ghost use Rattle.orders.specs.Deciding.{named, liveOrders, OrderAt, Searchable, Decides};
 ghost use Rattle.orders.specs.Promises.{Changes, Clears};
 
 impl Orders {
@@ -31,7 +37,11 @@ impl Orders {
                 fit: Fit::Misfit,
             };
         }
-        let v = self.judge(k, c);
+        let number = number_in(c);
+        let i = find(&self.numbers, &self.lives, &self.spans, k, number);
+        let at = k * ORDERS + place_or_first(i);
+        let x = self.places[at];
+        let v = judge(&self.numbers, &self.lives, &self.spans, k, i, x, c);
         self.settle(k, v)
     }
 
@@ -44,39 +54,50 @@ impl Orders {
         }
         self.empty(k)
     }
+}
 
-    fn judge(self, k: usize, c: Change) -> Verdict
-        requires { ⌜ k < symbols ⌝ }
-        ensures { λ r. ⌜ (Wf self → Decides (shelfAt self k) r (applyTo (liveOrders (shelfAt self k)) c)) ⌝ }
-    {
-        match c {
-            Change::Nothing => judge_nothing(),
-            Change::Add(order, buy, price, volume) => {
-                let i = find(&self.numbers, &self.lives, &self.spans, k, order);
-                let j = room(&self.lives, k, order);
-                judge_add(i, j, order, buy, price, volume)
-            }
-            Change::Modify(order, buy, price, volume) => {
-                let i = find(&self.numbers, &self.lives, &self.spans, k, order);
-                let x = self.order_at(k, i);
-                judge_modify(i, x, order, buy, price, volume)
-            }
-            Change::Delete(order) => {
-                let i = find(&self.numbers, &self.lives, &self.spans, k, order);
-                judge_delete(i, order)
-            }
-            Change::Execute(order, volume) => {
-                let i = find(&self.numbers, &self.lives, &self.spans, k, order);
-                let x = self.order_at(k, i);
-                judge_execute(i, x, order, volume)
-            }
-            Change::Replace(old, order, buy, price, volume) => {
-                let i = find(&self.numbers, &self.lives, &self.spans, k, old);
-                let x = self.order_at(k, i);
-                let j = find(&self.numbers, &self.lives, &self.spans, k, order);
-                let free = room(&self.lives, k, order);
-                judge_replace(i, x, j, free, old, order, buy, price, volume)
-            }
+// The order that a change finds first: its own, or the old one of a replace.
+fn number_in(c: Change) -> u64
+    ensures { λ r. ⌜ r ≡ named c ⌝ }
+{
+    match c {
+        Change::Nothing => 0,
+        Change::Add(order, buy, price, volume) => order,
+        Change::Modify(order, buy, price, volume) => order,
+        Change::Delete(order) => order,
+        Change::Execute(order, volume) => order,
+        Change::Replace(old, order, buy, price, volume) => old,
+    }
+}
+
+// What is decided of a change whose order was found at place i, or nowhere; x is the order there.
+fn judge<'a>(
+    numbers: &'a [u64; PLACES],
+    lives: &'a [bool; PLACES],
+    spans: &'a [u16; PLACES],
+    k: usize,
+    i: usize,
+    x: Order,
+    c: Change,
+) -> Verdict
+    requires { ⌜ k < symbols ⌝ }
+    ensures { λ r. ⌜ ((l : List Order) → Searchable l (now (numbers .entry)) (now (lives .entry)) (now (spans .entry)) k → OrderAt (named c) (shelf ordersEach k l) i → (i < ordersEach → x ≡ getD (shelf ordersEach k l) i noOrder) → Decides (shelf ordersEach k l) r (applyTo (liveOrders (shelf ordersEach k l)) c)) ⌝ }
+{
+    match c {
+        Change::Nothing => Verdict::Stays,
+        Change::Add(order, buy, price, volume) => {
+            let j = room(lives, k, order);
+            judge_add(i, j, order, buy, price, volume)
+        }
+        Change::Modify(order, buy, price, volume) => {
+            judge_modify(i, x, order, buy, price, volume)
+        }
+        Change::Delete(order) => judge_delete(i, order),
+        Change::Execute(order, volume) => judge_execute(i, x, order, volume),
+        Change::Replace(old, order, buy, price, volume) => {
+            let j = find(numbers, lives, spans, k, order);
+            let free = room(lives, k, order);
+            judge_replace(i, x, j, free, old, order, buy, price, volume)
         }
     }
 }

@@ -6,13 +6,15 @@ use crate::no_order;
 ghost use mathlib.Core.Path.{_≡_};
 ghost use mathlib.Core.Bool.{true};
 ghost use mathlib.Core.List.{List};
+ghost use Prim.Native.Nat.{_<_};
 ghost use lib.ListN.{getD};
-ghost use Rattle.orders.specs.State.{noOrder};
+ghost use Rattle.orders.specs.State.{ordersEach, noOrder};
 ghost use Rattle.orders.specs.Deciding.{OrderShelf, OrderAt, OrderRoom, Decides, liveOrders};
 ghost use Rattle.orders.specs.Rules.{applyTo};
 
-// It fits: the place `gone` is emptied, then the order goes to its place (ORDERS: none); or it doesn't fit; or there is no room.
+// It fits and changes no place; it fits, the place `gone` is emptied (ORDERS: none is), then the order goes to its place; it doesn't fit; there is no room.
 pub(crate) enum Verdict {
+    Stays,
     Fits {
         gone: usize,
         place: usize,
@@ -61,7 +63,7 @@ pub(crate) fn judge_modify(
     price: u32,
     volume: u32,
 ) -> Verdict
-    ensures { λ r. ⌜ ((l : List Order) → OrderShelf l → OrderAt order l i → x ≡ getD l i noOrder → Decides l r (applyTo (liveOrders l) (Change.Modify order buy price volume))) ⌝ }
+    ensures { λ r. ⌜ ((l : List Order) → OrderShelf l → OrderAt order l i → (i < ordersEach → x ≡ getD l i noOrder) → Decides l r (applyTo (liveOrders l) (Change.Modify order buy price volume))) ⌝ }
 {
     if ORDERS <= i {
         return Verdict::Misfit;
@@ -99,7 +101,7 @@ pub(crate) fn judge_delete(i: usize, order: u64) -> Verdict
 
 // What is left stands at the order's own price; where nothing is left, the order is gone.
 pub(crate) fn judge_execute(i: usize, x: Order, order: u64, volume: u32) -> Verdict
-    ensures { λ r. ⌜ ((l : List Order) → OrderShelf l → OrderAt order l i → x ≡ getD l i noOrder → Decides l r (applyTo (liveOrders l) (Change.Execute order volume))) ⌝ }
+    ensures { λ r. ⌜ ((l : List Order) → OrderShelf l → OrderAt order l i → (i < ordersEach → x ≡ getD l i noOrder) → Decides l r (applyTo (liveOrders l) (Change.Execute order volume))) ⌝ }
 {
     if ORDERS <= i {
         return Verdict::Misfit;
@@ -142,7 +144,7 @@ pub(crate) fn judge_replace(
     price: u32,
     volume: u32,
 ) -> Verdict
-    ensures { λ r. ⌜ ((l : List Order) → OrderShelf l → OrderAt old l i → OrderAt order l j → OrderRoom l free → x ≡ getD l i noOrder → Decides l r (applyTo (liveOrders l) (Change.Replace old order buy price volume))) ⌝ }
+    ensures { λ r. ⌜ ((l : List Order) → OrderShelf l → OrderAt old l i → OrderAt order l j → OrderRoom l free → (i < ordersEach → x ≡ getD l i noOrder) → Decides l r (applyTo (liveOrders l) (Change.Replace old order buy price volume))) ⌝ }
 {
     if ORDERS <= i {
         return Verdict::Misfit;
@@ -179,15 +181,4 @@ pub(crate) fn judge_replace(
         return Verdict::Misfit;
     }
     Verdict::Misfit
-}
-
-pub(crate) fn judge_nothing() -> Verdict
-    ensures { λ r. ⌜ ((l : List Order) → OrderShelf l → Decides l r (applyTo (liveOrders l) Change.Nothing)) ⌝ }
-{
-    let o = no_order();
-    Verdict::Fits {
-        gone: ORDERS,
-        place: ORDERS,
-        order: o,
-    }
 }

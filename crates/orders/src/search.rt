@@ -2,16 +2,15 @@
 use crate::EACH;
 use crate::ORDERS;
 use crate::Order;
-use crate::Orders;
 use crate::PLACES;
-use crate::no_order;
 ghost use mathlib.Core.Path.{_≡_};
+ghost use mathlib.Core.Bool.{cond};
 ghost use mathlib.Core.List.{List};
 ghost use Prim.Native.Nat.{ℕ, _<_, _*_};
-ghost use lib.ListN.{getD};
+ghost use lib.Dec.{ltb};
 ghost use Rattle.places.specs.Places.{symbols, shelf};
 ghost use Rattle.places.specs.Homes.{Mirrored, Near};
-ghost use Rattle.orders.specs.State.{ordersEach, noOrder, orderNumber, orderLive, shelfAt};
+ghost use Rattle.orders.specs.State.{ordersEach, orderNumber, orderLive};
 ghost use Rattle.orders.specs.Deciding.{OrderAt, OrderRoom};
 
 // Where a live order lies among its symbol's places, or ORDERS.
@@ -36,16 +35,9 @@ pub(crate) fn room(lives: &[bool; PLACES], k: usize, number: u64) -> usize
     places::room(lives, k * ORDERS, EACH, number)
 }
 
-impl Orders {
-    // The order at a place, or an empty one past the end.
-    pub(crate) fn order_at(self, k: usize, i: usize) -> Order
-        requires { ⌜ k < symbols ⌝ }
-        ensures { λ r. ⌜ r ≡ getD (shelfAt self k) i noOrder ⌝ }
-    {
-        if ORDERS <= i {
-            return no_order();
-        }
-        let at = k * ORDERS + i;
-        self.places[at]
-    }
+// A place that can be looked at: the one found, or the first where none was.
+pub(crate) fn place_or_first(i: usize) -> usize
+    ensures { λ r. ⌜ (r ≡ cond (ltb i ordersEach) i 0) × (r < ordersEach) ⌝ }
+{
+    if i < ORDERS { i } else { 0 }
 }

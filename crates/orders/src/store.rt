@@ -22,6 +22,10 @@ impl Orders {
         ensures { λ r. ⌜ r ≡ settledAt self k v ⌝ }
     {
         match v {
+            Verdict::Stays => Changed {
+                orders: self,
+                fit: Fit::Fits,
+            },
             Verdict::Misfit => Changed {
                 orders: self,
                 fit: Fit::Misfit,

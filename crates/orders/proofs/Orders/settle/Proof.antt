@@ -13,6 +13,9 @@ enum-told c = search needs
 enum-told-2 : tie.Need-enum-told-2
 enum-told-2 c = search needs
 
+enum-told-3 : tie.Need-enum-told-3
+enum-told-3 c = search needs
+
 enum-known-v : tie.Need-enum-known-v
 enum-known-v c = search needs
 
@@ -38,7 +41,10 @@ returns-3 : tie.Need-returns-3
 returns-3 c = sym (ap (λ (v : Verdict). settledAt (c .before .before .args .self) (c .before .before .args .k) v) (c .enum-told2 .given .1))
 
 returns-4 : tie.Need-returns-4
-returns-4 c = (rw (c .put-order3 .ensures, c .before .put-order2 .ensures, c .before .before .no-order .ensures)) ∙ sym (ap (λ (v : Verdict). settledAt (c .before .before .before .before .before .before .before .args .self) (c .before .before .before .before .before .before .before .args .k) v) (c .before .before .before .before .before .v .given .1))
+returns-4 c = sym (ap (λ (v : Verdict). settledAt (c .before .before .args .self) (c .before .before .args .k) v) (c .enum-told3 .given .1))
+
+returns-5 : tie.Need-returns-5
+returns-5 c = (rw (c .put-order3 .ensures, c .before .put-order2 .ensures, c .before .before .no-order .ensures)) ∙ sym (ap (λ (v : Verdict). settledAt (c .before .before .before .before .before .before .before .args .self) (c .before .before .before .before .before .before .before .args .k) v) (c .before .before .before .before .before .v .given .1))
 
 pub settle-spec : {M : Type 1} → statement M
 settle-spec =
@@ -46,6 +52,7 @@ settle-spec =
     (tie.spec
     enum-told
     enum-told-2
+    enum-told-3
     enum-known-v
     put-order-requires
     returns
@@ -54,4 +61,5 @@ settle-spec =
     put-order-requires-3
     returns-2
     returns-3
-    returns-4)
+    returns-4
+    returns-5)
