@@ -1,24 +1,24 @@
 -- What a search finds among the numbers and marks of the orders is where the order lies, or where there is room.
 use mathlib.Core.Bool.{Bool, cond}
 use mathlib.Core.List.{List}
-use mathlib.Core.Path.{_≡_, refl, sym, ap, _∙_}
+use mathlib.Core.Path.{_≡_, refl, sym, _∙_}
 use Prim.Native.Nat.{ℕ, _+_, _*_, _<_, _≤_}
 use native.Mathlib.Omega.{arith}
 use borrow.Author.Tests.{lt-ltb}
 use lib.Dec.{ltb}
-use lib.ListN.{length, getD, length-map}
+use lib.ListN.{length, getD}
 use Rattle.places.specs.Places.{symbols, shelf}
 use Rattle.places.specs.Homes.{soughtIn, freeIn, Mirrored, Near}
 use Rattle.places.proofs.Shelves.{shelf-get}
 use Rattle.places.proofs.EightShelves.{shelf-reach}
-use Rattle.places.proofs.Mirroring.{found-near, free-on}
+use Rattle.places.proofs.Mirroring.{as-many-marks, found-near, free-on}
 use Rattle.orders.specs.State.{ordersEach, noOrder, orderNumber, orderLive}
 use Rattle.orders.specs.Deciding.{OrderAt, OrderRoom}
 use Rattle.orders.specs.declared.Order.{Order}
 
 module _ (ls : List Bool) (size : length ls ≡ symbols * ordersEach) (k : ℕ) (h : k < symbols) (number : ℕ) (l : List Order) (ns : List ℕ) (w : Mirrored orderNumber orderLive l ns ls) where
   reach : k * ordersEach + ordersEach ≤ length l
-  reach = shelf-reach ordersEach k l (sym (length-map l orderLive) ∙ ap (λ (m : List Bool). length m) (sym (w .lives)) ∙ size) h
+  reach = shelf-reach ordersEach k l (sym (as-many-marks orderNumber orderLive l ns ls w) ∙ size) h
 
   pub free : (r : ℕ) → r ≡ freeIn ls (k * ordersEach) ordersEach number → OrderRoom (shelf ordersEach k l) r
   free r e = rw e (free-on orderNumber orderLive noOrder refl refl l ns ls w ordersEach k (omega arith) reach number)

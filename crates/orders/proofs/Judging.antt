@@ -1,4 +1,4 @@
--- Each verdict on the orders is the rule's: the search says which clause of the rule it is, and the store that goes with it is one of the five changes of a shelf.
+-- Each verdict on the orders is the rule's: the search says which clause of the rule it is, and the stores that go with it are changes of a shelf, one after the other where there are two.
 use mathlib.Core.Bool.{Bool, true, false, Bool·beq}
 use mathlib.Core.List.{List}
 use mathlib.Core.Option.{none}
@@ -8,7 +8,7 @@ use native.Mathlib.Omega.{arith}
 use borrow.Author.Tests.{lt-ltb, le-ltb, eq-eqb, ne-eqb}
 use lib.ListN.{getD, set}
 use Rattle.feed.specs.Reader.{fits}
-use Rattle.places.specs.Places.{look, inOrder, insert, Lands}
+use Rattle.places.specs.Places.{count, has, look, inOrder, insert, Lands}
 use Rattle.places.proofs.Living.{Lies, look-none}
 use Rattle.places.proofs.Landing.{placed-nowhere, lands-nowhere, missing, found, crowded, roomy, lands-new, lands-out, lands-changed, lands-instead, lands-moved, absent-after, same-after, still-there}
 use Rattle.orders.specs.State.{ordersEach, noOrder, orderNumber, orderLive}
@@ -29,7 +29,7 @@ module _ (l : List Order) (w : OrderShelf l) where
   alone : {place : ℕ} {o : Order} {os : List Order} → Lands orderNumber orderLive ordersEach l place o os → Decides l (Verdict.Fits ordersEach place o) (fits os)
   alone {place} {o} {os} p =
       lands {gone = ordersEach} {place = place} {o = o} {rest = liveOrders l} {os = os} (lands-nowhere orderNumber orderLive noOrder refl ordersEach l w noOrder)
-      (rw (placed-nowhere orderNumber orderLive noOrder refl ordersEach l w noOrder) p)
+      (rw (placed-nowhere ordersEach l noOrder) p)
 
   -- ---- add
   module _ (n : ℕ) (buy : Bool) (p v i j : ℕ) (at : OrderAt n l i) (room : OrderRoom l j) where
@@ -117,19 +117,18 @@ module _ (l : List Order) (w : OrderShelf l) where
               (rw (hit n i at h .removed) at (lands-out orderNumber orderLive noOrder refl ordersEach l w n i at h))
               (lands-moved orderNumber orderLive noOrder refl ordersEach l w n i at h o refl j there g free room r))
 
-          pub replace-full : ordersEach ≤ j → Decides l (Verdict.Fits ordersEach i o) (applyTo (liveOrders l) (Change.Replace n new buy p v))
+          -- the new order in the old one's place, where its number is nowhere else
+          instead : count (has orderNumber orderLive new) (set l i noOrder) ≡ 0 → Decides l (Verdict.Fits ordersEach i o) (applyTo (liveOrders l) (Change.Replace n new buy p v))
           unfolding applyTo
-          replace-full g =
-              let z = absent-after orderNumber orderLive noOrder refl ordersEach l w n i at h o refl j there g in
+          instead z =
               rw (hit n i at h .looked, t, hit n i at h .removed, look-none orderNumber orderLive new (set l i noOrder) z)
               (alone {place = i} {o = o} {os = insert orderNumber o (inOrder orderNumber orderLive (set l i noOrder))} (lands-instead orderNumber orderLive noOrder refl ordersEach l w n i at h o refl z))
 
+          pub replace-instead : ordersEach ≤ j → Decides l (Verdict.Fits ordersEach i o) (applyTo (liveOrders l) (Change.Replace n new buy p v))
+          replace-instead g = instead (absent-after orderNumber orderLive noOrder refl ordersEach l w n i at h o refl j there g)
+
           pub replace-same : i ≡ j → Decides l (Verdict.Fits ordersEach i o) (applyTo (liveOrders l) (Change.Replace n new buy p v))
-          unfolding applyTo
-          replace-same e =
-              let z = same-after orderNumber orderLive noOrder refl ordersEach l w n i at h o refl j there e in
-              rw (hit n i at h .looked, t, hit n i at h .removed, look-none orderNumber orderLive new (set l i noOrder) z)
-              (alone {place = i} {o = o} {os = insert orderNumber o (inOrder orderNumber orderLive (set l i noOrder))} (lands-instead orderNumber orderLive noOrder refl ordersEach l w n i at h o refl z))
+          replace-same e = instead (same-after orderNumber orderLive noOrder refl ordersEach l w n i at h o refl j there e)
 
           pub replace-twice : j < ordersEach → (i ≡ j → ⊥) → Decides l Verdict.Misfit (applyTo (liveOrders l) (Change.Replace n new buy p v))
           unfolding applyTo

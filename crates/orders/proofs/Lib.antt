@@ -7,4 +7,3 @@ pub mod Sides
 pub mod Executing
 pub mod Holding
 pub mod OneOutcome
-pub mod Examples

@@ -7,7 +7,7 @@ use Prim.Native.Nat.{ℕ, _+_, _*_, _<_, _≤_}
 use native.Mathlib.Omega.{arith}
 use borrow.Author.Tests.{ltb-true, le-ltb}
 use lib.Dec.{ltb}
-use lib.ListN.{length, getD, set, length-set, length-map}
+use lib.ListN.{length, getD, set, length-set}
 use Rattle.feed.specs.Reader.{Fit, fits}
 use Rattle.feed.specs.Book.{fitted}
 use Rattle.places.specs.Places.{symbols, placed, Lands, emptied}
@@ -15,7 +15,7 @@ use Rattle.places.specs.Homes.{Mirrored, Near}
 use Rattle.places.proofs.Emptied.{emptied-next, is-emptied}
 use Rattle.places.proofs.Landing.{shelf-placed}
 use Rattle.places.proofs.Nearness.{near-stored, near-emptied}
-use Rattle.places.proofs.Mirroring.{mirrored-set, mirrored-emptied}
+use Rattle.places.proofs.Mirroring.{as-many-numbers, as-many-marks, mirrored-set, mirrored-emptied}
 use Rattle.places.proofs.EightShelves.{shelf-reach, nothing-past, store-own, store-other, store-singles, emptied-own, emptied-other, emptied-singles}
 use Rattle.orders.specs.State.{ordersEach, noOrder, orderNumber, orderLive, shelfAt, liveAt, Wf}
 use Rattle.orders.specs.Rules.{applyTo}
@@ -41,10 +41,10 @@ module _ (b : Orders) (k : ℕ) (h : k < symbols) (s : Sized b) where
 
   module _ (w : Wf b) where
     in-numbers : k * ordersEach + ordersEach ≤ length (b .numbers)
-    in-numbers = rw (w .mirrored .numbers, length-map) in-places
+    in-numbers = rw (as-many-numbers orderNumber orderLive (b .places) (b .numbers) (b .lives) (w .mirrored)) in-places
 
     in-lives : k * ordersEach + ordersEach ≤ length (b .lives)
-    in-lives = rw (w .mirrored .lives, length-map) in-places
+    in-lives = rw (as-many-marks orderNumber orderLive (b .places) (b .numbers) (b .lives) (w .mirrored)) in-places
 
 -- ---- one place changed
 module _ (b : Orders) (k : ℕ) (h : k < symbols) (s : Sized b) (i : ℕ) (o : Order) where

@@ -52,7 +52,7 @@ pub data Decides (l : List Order) : Verdict → Fit (List Order) → Type 0 wher
   crowds : Decides l Verdict.NoRoom no-room
 
 -- ---- the stores
--- the span of the new order's home is raised, then that of the home whose order gave way is lowered
+-- the span of the new order's home is raised, then that of the home of the number that stood there is lowered
 abbrev pub spansAfter : Orders → ℕ → ℕ → Order → List ℕ
 spansAfter b k i o =
     loweredAt (set (b .numbers) (k * ordersEach + i) (o .number)) (set (b .lives) (k * ordersEach + i) (o .live))

@@ -27,7 +27,7 @@ pub(crate) fn find<'a>(
     places::find(numbers, lives, spans, k * ORDERS, EACH, number)
 }
 
-// An empty place for an order, the first from its number's home on, or ORDERS.
+// An empty place for an order of this number, or ORDERS.
 pub(crate) fn room(lives: &[bool; PLACES], k: usize, number: u64) -> usize
     requires { ⌜ k < symbols ⌝ }
     ensures { λ r. ⌜ ((l : List Order) (ns : List ℕ) → Mirrored orderNumber orderLive l ns (now (lives .entry)) → OrderRoom (shelf ordersEach k l) r) ⌝ }

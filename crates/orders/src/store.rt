@@ -53,8 +53,8 @@ impl Orders {
         }
     }
 
-    // An order goes to a place of its symbol, whatever lay there. The span of its home is raised as far as it lies; that of the home whose order lay there is lowered to the last
-    // order of that home.
+    // An order goes to a place of its symbol, whatever lay there. The span of its home is raised as far as it lies; that of the home of the number that stood there is lowered to
+    // the last order of that home.
     fn put_order(mut self, k: usize, i: usize, o: Order) -> Orders
         requires { ⌜ k < symbols ⌝ }
         ensures { λ r. ⌜ r ≡ withOrder self k i o ⌝ }

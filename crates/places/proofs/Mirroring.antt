@@ -1,9 +1,8 @@
 -- The numbers and the marks beside a list are its own, so what a search finds among them lies at that place of the list; and they stay so, whatever is stored in all three.
-use mathlib.Core.Bool.{Bool, true, false, cond}
+use mathlib.Core.Bool.{Bool, false}
 use mathlib.Core.List.{List, [], _∷_, map}
 use mathlib.Core.Path.{_≡_, refl, sym, ap, _∙_}
 use Prim.Native.Nat.{ℕ, zero, suc, _+_, _*_, _<_, _≤_}
-use native.Mathlib.Omega.{arith}
 use lib.ListN.{length, getD, set, replicate, length-map, List·getD-map}
 use Rattle.places.specs.Places.{shelf, has, FoundAt, FreeAt, emptied}
 use Rattle.places.specs.Homes.{holds, soughtIn, freeIn, Mirrored, Near}
@@ -43,6 +42,12 @@ module _ {A : Type 0} (key : A → ℕ) (live : A → Bool) where
   pub mirrored-new : (n : ℕ) (z : A) → Mirrored key live (replicate n z) (replicate n (key z)) (replicate n (live z))
   mirrored-new n z = record { numbers = sym (map-replicated key n z); lives = sym (map-replicated live n z) }
 
+  pub as-many-numbers : (l : List A) (ns : List ℕ) (ls : List Bool) → Mirrored key live l ns ls → length ns ≡ length l
+  as-many-numbers l ns ls w = ap (λ (m : List ℕ). length m) (w .numbers) ∙ length-map l key
+
+  pub as-many-marks : (l : List A) (ns : List ℕ) (ls : List Bool) → Mirrored key live l ns ls → length ls ≡ length l
+  as-many-marks l ns ls w = ap (λ (m : List Bool). length m) (w .lives) ∙ length-map l live
+
   -- ---- what is found among the numbers and the marks is found on the shelf. d is the empty element
   module _ (d : A) (none : key d ≡ 0) (dead : live d ≡ false) (l : List A) (ns : List ℕ) (ls : List Bool) (w : Mirrored key live l ns ls) (n k : ℕ) (some : 0 < n) (room : k * n + n ≤ length l) (number : ℕ) where
     number-at : (p : ℕ) → getD ns p 0 ≡ key (getD l p d)
@@ -52,10 +57,10 @@ module _ {A : Type 0} (key : A → ℕ) (live : A → Bool) where
     live-at p = ap (λ (m : List Bool). getD m p false) (w .lives) ∙ ap (λ (z : Bool). getD (map live l) p z) (sym dead) ∙ List·getD-map live l p d
 
     in-numbers : k * n + n ≤ length ns
-    in-numbers = rw (w .numbers, length-map) room
+    in-numbers = rw (as-many-numbers l ns ls w) room
 
     in-lives : k * n + n ≤ length ls
-    in-lives = rw (w .lives, length-map) room
+    in-lives = rw (as-many-marks l ns ls w) room
 
     held-on : (i : ℕ) → i < n → holds ns ls number (k * n + i) ≡ has key live number (getD (shelf n k l) i d)
     held-on i h = rw (number-at (k * n + i), live-at (k * n + i), shelf-get n k l i d h)

@@ -1,18 +1,19 @@
 -- What is live lies within the span of its home, so a search that has gone that far has met it. A store raises the span of the home that gains a number and lowers that of the
 -- home that loses one; in between, and after it, everything stays within its span.
-use mathlib.Core.Bool.{Bool, true, false, cond, not, false≢true, true≢false}
+use mathlib.Core.Bool.{Bool, true, false, not, false≢true, true≢false}
 use mathlib.Core.List.{List}
 use mathlib.Core.Path.{_≡_, refl, sym, ap, _∙_}
-use Prim.Native.Nat.{ℕ, _+_, _*_, _<_, _≤_, min, max}
+use Prim.Native.Nat.{ℕ, _+_, _*_, _<_, _≤_, min}
 use native.Mathlib.Omega.{arith}
-use borrow.Author.Tests.{lt-ltb, eqb-true, eqb-false, eq-eqb, leb-true, leb-false}
+use borrow.Author.Tests.{lt-ltb, eqb-true, eqb-false, leb-true, leb-false}
 use lib.Dec.{eqb, leb}
 use lib.ListN.{length, getD, set, length-set, replicate}
 use lib.Seq.{getD-set-same, getD-set-other}
 use Rattle.places.specs.Places.{shelf, emptied, EmptiedTo}
-use Rattle.places.specs.Homes.{homeOf, roundFrom, awayFrom, firstRound, lastRound, holds, homed, soughtIn, freeIn, raisedTo, loweredTo, raisedAt, loweredAt, Near}
+use Rattle.places.specs.Homes.{homeOf, awayFrom, firstRound, lastRound, holds, homed, soughtIn, freeIn, raisedTo, loweredTo, raisedAt, loweredAt, Near}
 use Rattle.places.proofs.Shelves.{shelf-get, shelf-other, shelf-replicated}
 use Rattle.places.proofs.Emptied.{is-emptied}
+use Rattle.places.proofs.Sought.{sought-inside, free-inside, lowered-inside}
 use Rattle.places.proofs.Rounds.{home-within, not-outside, away-within, round-away, first-there, first-nowhere, last-beyond}
 
 -- ---- what the searches find
@@ -20,18 +21,17 @@ module _ (numbers : List ℕ) (lives : List Bool) (spans : List ℕ) (from n num
   abbrev home : ℕ
   home = homeOf n number
 
-  abbrev span : ℕ
-  span = getD spans (from + home) 0
+  abbrev reach : ℕ
+  reach = getD spans (from + home) 0
 
   abbrev held : ℕ → Bool
   held i = holds numbers lives number (from + i)
 
-  sought-is : soughtIn numbers lives spans from n number ≡ firstRound n home (min span n) 0 held
-  unfolding soughtIn
-  sought-is = rw (not-outside from n (min (min (length numbers) (length lives)) (length spans)) some (omega (arith, in-numbers, in-lives, in-spans)))
+  sought-is : soughtIn numbers lives spans from n number ≡ firstRound n home (min reach n) 0 held
+  sought-is = sought-inside numbers lives spans from n number (not-outside from n (min (min (length numbers) (length lives)) (length spans)) some (omega (arith, in-numbers, in-lives, in-spans)))
 
   pub sought-there : soughtIn numbers lives spans from n number < n → held (soughtIn numbers lives spans from n number) ≡ true
-  sought-there h = rw sought-is (first-there n home held (min span n) 0 (rw sought-is at h))
+  sought-there h = rw sought-is (first-there n home held (min reach n) 0 (rw sought-is at h))
 
   pub sought-none : Near numbers lives spans from n → n ≤ soughtIn numbers lives spans from n number → (i : ℕ) → i < n → held i ≡ false
   sought-none near h i g = go (getD lives (from + i) false) refl (eqb (getD numbers (from + i) 0) number) refl
@@ -43,9 +43,9 @@ module _ (numbers : List ℕ) (lives : List Bool) (spans : List ℕ) (from n num
       go false e u q = rw e
       go true e false q = rw (e, q)
       go true e true q =
-          let away : awayFrom n home i < span = (rw (eqb-true (getD numbers (from + i) 0) number q) at (near .near i g e)) in
+          let away : awayFrom n home i < reach = (rw (eqb-true (getD numbers (from + i) 0) number q) at (near .near i g e)) in
           let once = away-within n home within i g in
-          let failed = first-nowhere n home held within (min span n) 0 (omega arith) (rw sought-is at h) (awayFrom n home i) (omega arith) (omega (arith, away, once)) in
+          let failed = first-nowhere n home held within (min reach n) 0 (omega arith) (rw sought-is at h) (awayFrom n home i) (omega arith) (omega (arith, away, once)) in
           rw (round-away n home within i g) at failed
 
 module _ (lives : List Bool) (from n number : ℕ) (some : 0 < n) (in-lives : from + n ≤ length lives) where
@@ -53,8 +53,7 @@ module _ (lives : List Bool) (from n number : ℕ) (some : 0 < n) (in-lives : fr
   empty-at i = not (getD lives (from + i) false)
 
   free-is : freeIn lives from n number ≡ firstRound n (homeOf n number) n 0 empty-at
-  unfolding freeIn
-  free-is = rw (not-outside from n (length lives) some in-lives)
+  free-is = free-inside lives from n number (not-outside from n (length lives) some in-lives)
 
   not-true : (t : Bool) → not t ≡ true → t ≡ false
   not-true true e = absurd (false≢true e)
@@ -106,7 +105,7 @@ module _ (numbers : List ℕ) (lives : List Bool) (spans : List ℕ) (from n i n
   abbrev spans' : List ℕ
   spans' = raisedAt spans from n i number live
 
-  pub raised-near : Near numbers lives spans from n → Near numbers' lives' spans' from n
+  raised-near : Near numbers lives spans from n → Near numbers' lives' spans' from n
   raised-near near = record { near = λ j h lv. go j h lv (eqb j i) refl }
     where
       within : homeOf n number < n
@@ -141,8 +140,7 @@ module _ (numbers : List ℕ) (lives : List Bool) (spans : List ℕ) (from n was
   within-lost = home-within n was some
 
   left-is : left ≡ lastRound n lost (min old n) (λ i. homed n numbers lives lost (from + i))
-  unfolding loweredTo
-  left-is = rw (not-outside from n (min (length numbers) (length lives)) some (omega (arith, in-numbers, in-lives)))
+  left-is = lowered-inside numbers lives from n was old (not-outside from n (min (length numbers) (length lives)) some (omega (arith, in-numbers, in-lives)))
 
   still-covered : (j : ℕ) → j < n → homed n numbers lives lost (from + j) ≡ true → awayFrom n lost j < old → awayFrom n lost j < left
   still-covered j g there near = go (leb left (awayFrom n lost j)) refl
@@ -154,7 +152,7 @@ module _ (numbers : List ℕ) (lives : List Bool) (spans : List ℕ) (from n was
           let none = last-beyond n lost (λ i. homed n numbers lives lost (from + i)) (min old n) (awayFrom n lost j) (rw left-is at (leb-true left (awayFrom n lost j) e)) (omega (arith, near, once)) in
           absurd (true≢false (sym there ∙ (rw (round-away n lost within-lost j g) at none)))
 
-  pub lowered-near : Near numbers lives spans from n → Near numbers lives (loweredAt numbers lives spans from n was) from n
+  lowered-near : Near numbers lives spans from n → Near numbers lives (loweredAt numbers lives spans from n was) from n
   lowered-near near = record { near = λ j g lv. go j g lv (eqb (homeOf n (getD numbers (from + j) 0)) lost) refl }
     where
       go : (j : ℕ) → j < n → getD lives (from + j) false ≡ true → (t : Bool) → eqb (homeOf n (getD numbers (from + j) 0)) lost ≡ t
@@ -170,7 +168,7 @@ module _ (n k : ℕ) where
   same-place : {B : Type 0} (l m : List B) (d : B) → shelf n k m ≡ shelf n k l → (j : ℕ) → j < n → getD m (k * n + j) d ≡ getD l (k * n + j) d
   same-place l m d e j g = sym (shelf-get n k m j d g) ∙ ap (λ (x : List _). getD x j d) e ∙ shelf-get n k l j d g
 
-  pub near-alike : (numbers ns : List ℕ) (lives ls : List Bool) (spans ss : List ℕ) → shelf n k ns ≡ shelf n k numbers → shelf n k ls ≡ shelf n k lives → shelf n k ss ≡ shelf n k spans
+  near-alike : (numbers ns : List ℕ) (lives ls : List Bool) (spans ss : List ℕ) → shelf n k ns ≡ shelf n k numbers → shelf n k ls ≡ shelf n k lives → shelf n k ss ≡ shelf n k spans
       → Near numbers lives spans (k * n) n → Near ns ls ss (k * n) n
   near-alike numbers ns lives ls spans ss e f g near = record {
     near = λ i h lv.
@@ -179,7 +177,7 @@ module _ (n k : ℕ) where
   }
 
   -- a shelf on which nothing is live
-  pub near-empty : (numbers : List ℕ) (lives : List Bool) (spans : List ℕ) → ((i : ℕ) → i < n → getD (shelf n k lives) i false ≡ false) → Near numbers lives spans (k * n) n
+  near-empty : (numbers : List ℕ) (lives : List Bool) (spans : List ℕ) → ((i : ℕ) → i < n → getD (shelf n k lives) i false ≡ false) → Near numbers lives spans (k * n) n
   near-empty numbers lives spans none = record { near = λ i h lv. absurd (false≢true (sym (none i h) ∙ shelf-get n k lives i false h ∙ lv)) }
 
   pub near-new : (long : ℕ) → Near (replicate long 0) (replicate long false) (replicate long 0) (k * n) n
@@ -195,31 +193,31 @@ module _ (numbers : List ℕ) (lives : List Bool) (spans : List ℕ) (n k : ℕ)
     abbrev marked : List Bool
     marked = set lives (k * n + i) live
 
-    abbrev raised : List ℕ
-    raised = raisedAt spans (k * n) n i number live
+    abbrev reaching : List ℕ
+    reaching = raisedAt spans (k * n) n i number live
 
-    abbrev lowered : List ℕ
-    lowered = loweredAt stored marked raised (k * n) n was
+    abbrev settled : List ℕ
+    settled = loweredAt stored marked reaching (k * n) n was
 
     some : 0 < n
     some = omega (arith, g)
 
-    stored-here : Near numbers lives spans (k * n) n → Near stored marked lowered (k * n) n
+    stored-here : Near numbers lives spans (k * n) n → Near stored marked settled (k * n) n
     stored-here near =
-        lowered-near stored marked raised (k * n) n was some (rw length-set in-numbers) (rw length-set in-lives) (rw length-set in-spans)
+        lowered-near stored marked reaching (k * n) n was some (rw length-set in-numbers) (rw length-set in-lives) (rw length-set in-spans)
         (raised-near numbers lives spans (k * n) n i number live g in-numbers in-lives in-spans near)
 
-    stored-elsewhere : (m : ℕ) → (m ≡ k → ⊥) → Near numbers lives spans (m * n) n → Near stored marked lowered (m * n) n
-    stored-elsewhere m ne near = near-alike n m numbers stored lives marked spans lowered
+    stored-elsewhere : (m : ℕ) → (m ≡ k → ⊥) → Near numbers lives spans (m * n) n → Near stored marked settled (m * n) n
+    stored-elsewhere m ne near = near-alike n m numbers stored lives marked spans settled
         (shelf-other n k numbers i number m g ne)
         (shelf-other n k lives i live m g ne)
-        (shelf-other n k raised (homeOf n was) _ m (home-within n was some) ne ∙ shelf-other n k spans (homeOf n number) _ m (home-within n number some) ne)
+        (shelf-other n k reaching (homeOf n was) _ m (home-within n was some) ne ∙ shelf-other n k spans (homeOf n number) _ m (home-within n number some) ne)
         near
 
-    pub near-stored : (m : ℕ) → Near numbers lives spans (m * n) n → Near stored marked lowered (m * n) n
+    pub near-stored : (m : ℕ) → Near numbers lives spans (m * n) n → Near stored marked settled (m * n) n
     near-stored m near = go (eqb m k) refl
       where
-        go : (t : Bool) → eqb m k ≡ t → Near stored marked lowered (m * n) n
+        go : (t : Bool) → eqb m k ≡ t → Near stored marked settled (m * n) n
         go true e = let q = eqb-true m k e in rw q (stored-here (rw q at near))
         go false e = stored-elsewhere m (eqb-false m k e) near
 

@@ -1,18 +1,18 @@
 -- Going round from a home every place is met, each once; so what a search passed, and how far a span reaches, is known of every place.
 use mathlib.Core.Bool.{Bool, true, false, cond, true≢false}
-use mathlib.Core.Path.{_≡_, refl, sym, _∙_}
+use mathlib.Core.Path.{_≡_, refl}
 use Prim.Native.Nat.{ℕ, zero, suc, _+_, _-_, _*_, _<_, _≤_}
 use native.Mathlib.Nat.{not-suc-le-zero, mul-le-mul-right}
 use native.Mathlib.Omega.{arith}
 use borrow.Author.Tests.{lt-ltb, le-ltb, leb-true, leb-false, ltb-true, ltb-false, eqb-true, eqb-false, ne-eqb}
 use lib.Dec.{leb, ltb, eqb}
-use Rattle.places.specs.Homes.{spread, homeOf, roundFrom, awayFrom, firstRound, lastRound, outside}
+use Rattle.places.specs.Homes.{half, spread, homeOf, roundFrom, awayFrom, firstRound, lastRound, outside}
 
 -- ---- homes
-spread-bits : (number : ℕ) → spread number ≤ 4294967295
+spread-bits : (number : ℕ) → spread number ≤ half - 1
 spread-bits number = omega arith
 
-pub spread-times : (n number : ℕ) → spread number * n ≤ 4294967295 * n
+pub spread-times : (n number : ℕ) → spread number * n ≤ (half - 1) * n
 spread-times n number = mul-le-mul-right n (spread-bits number)
 
 pub home-within : (n number : ℕ) → 0 < n → homeOf n number < n
@@ -45,7 +45,7 @@ by-rest from n long h = go (ltb long (from + n)) refl
 
 -- ---- the way round
 module _ (n h : ℕ) (home : h < n) where
-  pub round-within : (j : ℕ) → j < n → roundFrom n h j < n
+  round-within : (j : ℕ) → j < n → roundFrom n h j < n
   unfolding roundFrom
   round-within j g = go (ltb (h + j) n) refl
     where

@@ -1,5 +1,5 @@
 -- Where a number is looked for: from its home on, going round its shelf, as far as live numbers of that home lie. What the searches' contracts cite; which place a home is
--- matters to nothing but time. A shelf is n places from place `from` on. Searches read two lists, the numbers and whether each is live, and the spans.
+-- matters to nothing but time. A shelf is n places from place `from` on. Searches read three lists: the numbers, whether each is live, and the spans.
 use mathlib.Core.Bool.{Bool, true, false, cond, not}
 use mathlib.Core.List.{List, map}
 use mathlib.Core.Path.{_≡_}
@@ -7,13 +7,24 @@ use Prim.Native.Nat.{ℕ, zero, suc, _+_, _-_, _*_, _/_, _%_, _<_, max, min}
 use lib.Dec.{leb, ltb, eqb}
 use lib.ListN.{length, getD, set}
 
--- a number's two halves added, spread over 32 bits
+-- what a half of a number is below, and its share by the golden ratio
+abbrev pub half : ℕ
+half = 4294967296
+
+abbrev pub golden : ℕ
+golden = 2654435769
+
+-- a width has 16 bits
+abbrev pub mostPlaces : ℕ
+mostPlaces = 65535
+
+-- a number's two halves added, spread over the 32 bits of a half
 abbrev pub spread : ℕ → ℕ
-spread number = (number % 4294967296 + number / 4294967296) % 4294967296 * 2654435769 % 4294967296
+spread number = (number % half + number / half) % half * golden % half
 
 -- the home of a number among n places
 unfoldable pub homeOf : ℕ → ℕ → ℕ
-homeOf n number = spread number * n / 4294967296
+homeOf n number = spread number * n / half
 
 -- the place j places on from a home, going round
 unfoldable pub roundFrom : ℕ → ℕ → ℕ → ℕ
@@ -64,7 +75,7 @@ loweredTo numbers lives from n number span =
     cond (outside from n (min (length numbers) (length lives))) span
     (lastRound n (homeOf n number) (min span n) (λ i. homed n numbers lives (homeOf n number) (from + i)))
 
--- the spans after a store at place i, where `was` gives way to `number`: one is raised, then one is lowered
+-- the spans after a store at place i, where the number `was` gives way to another one: that of the new one's home is raised, then that of the old one's is lowered
 abbrev pub raisedAt : List ℕ → ℕ → ℕ → ℕ → ℕ → Bool → List ℕ
 raisedAt spans from n i number live = set spans (from + homeOf n number) (raisedTo n number live i (getD spans (from + homeOf n number) 0))
 

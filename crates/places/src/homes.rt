@@ -1,21 +1,27 @@
 // The home of a number, and the way round a shelf from it.
 ghost use mathlib.Core.Path.{_≡_};
 ghost use Prim.Native.Nat.{_<_, _≤_, min};
-ghost use Rattle.places.specs.Homes.{homeOf, roundFrom, awayFrom, outside};
+ghost use Rattle.places.specs.Homes.{homeOf, mostPlaces, roundFrom, awayFrom, outside};
 
-// The place at which the search for a number begins. Numbers that follow each other, and those that differ in one half, lie apart.
+// Two to the power of 32: what a half of a number is below.
+const HALF: u64 = 4294967296;
+
+// The share of HALF by which the golden ratio divides it, so that numbers that follow each other get homes that lie apart.
+const GOLDEN: u64 = 2654435769;
+
+// The place at which the search for a number begins. Both halves of the number count.
 pub fn home_of(number: u64, each: u16) -> usize
     ensures { λ r. ⌜ r ≡ homeOf each number ⌝ }
 {
-    let folded = (number % 4294967296 + number / 4294967296) % 4294967296;
-    let spread = folded * 2654435769 % 4294967296;
+    let folded = (number % HALF + number / HALF) % HALF;
+    let spread = folded * GOLDEN % HALF;
     let places = each as u64;
-    (spread * places / 4294967296) as usize
+    (spread * places / HALF) as usize
 }
 
 // The place j places on from a home.
 pub(crate) fn round_from(n: usize, home: usize, j: usize) -> usize
-    requires { ⌜ (home < n) × (j < n) × (n ≤ 65535) ⌝ }
+    requires { ⌜ (home < n) × (j < n) × (n ≤ mostPlaces) ⌝ }
     ensures { λ r. ⌜ (r ≡ roundFrom n home j) × (r < n) ⌝ }
 {
     let i = home + j;
@@ -24,7 +30,7 @@ pub(crate) fn round_from(n: usize, home: usize, j: usize) -> usize
 
 // How many places on from a home place i is.
 pub(crate) fn away_from(n: usize, home: usize, i: usize) -> usize
-    requires { ⌜ (home < n) × (i < n) × (n ≤ 65535) ⌝ }
+    requires { ⌜ (home < n) × (i < n) × (n ≤ mostPlaces) ⌝ }
     ensures { λ r. ⌜ (r ≡ awayFrom n home i) × (r < n) ⌝ }
 {
     if home <= i { i - home } else { i + n - home }

@@ -10,7 +10,7 @@ ghost use mathlib.Core.Bool.{false, cond};
 ghost use lib.Dec.{eqb};
 ghost use Rattle.places.specs.Homes.{soughtIn, freeIn};
 
-// The place of the shelf at which a number is live, or `each`. No further than the span of the number's home is looked.
+// The first place of the shelf, from the number's home on and within that home's span, at which the number is live, or `each`.
 pub fn find<'a>(
     numbers: &'a [u64],
     lives: &'a [bool],

@@ -1,5 +1,5 @@
 -- Each branch is a clause of the rule of a replace; the new number is refused only where it lies at another place than the old order.
-use Rattle.orders.proofs.Judging.{replace-missing, replace-other-side, replace-moves, replace-full, replace-same, replace-twice}
+use Rattle.orders.proofs.Judging.{replace-missing, replace-other-side, replace-moves, replace-instead, replace-same, replace-twice}
 use Rattle.orders.proofs.rules.judge_replace.Statement.{statement}
 use Rattle.orders.proofs.rules.judge_replace.Tie as tie
 
@@ -7,7 +7,7 @@ returns : tie.Need-returns
 returns c l w p f r q = replace-missing l w _ _ p (c .if1 .taken) _ _ _ _
 
 returns-2 : tie.Need-returns-2
-returns-2 c l w p f r q = replace-full l w _ _ p (c .before .before .before .before .if1 .left) _ _ _ _ (rw (q (c .before .before .before .before .if1 .left)) at (c .before .before .if2 .taken)) _ f (c .before .if3 .taken)
+returns-2 c l w p f r q = replace-instead l w _ _ p (c .before .before .before .before .if1 .left) _ _ _ _ (rw (q (c .before .before .before .before .if1 .left)) at (c .before .before .if2 .taken)) _ f (c .before .if3 .taken)
 
 returns-3 : tie.Need-returns-3
 returns-3 c l w p f r q = replace-moves l w _ _ p (c .before .before .before .before .if1 .left) _ _ _ _ (rw (q (c .before .before .before .before .if1 .left)) at (c .before .before .if2 .taken)) _ f (c .before .if3 .taken) _ r (c .if4 .left)

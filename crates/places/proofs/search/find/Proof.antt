@@ -4,7 +4,7 @@ use Prim.Native.Nat.{_+_, _-_, _<_, _≤_}
 use native.Mathlib.Omega.{arith}
 use denote.Ref.{now}
 use lib.ListN.{length}
-use Rattle.places.specs.Homes.{holds}
+use Rattle.places.specs.Homes.{mostPlaces, holds}
 use Rattle.places.proofs.Rounds.{Leaves, leaves-all, leaves-more}
 use Rattle.places.proofs.Sought.{stands, sought-outside, sought-nowhere, sought-here}
 use borrow.Author.Needs.{needs}
@@ -12,7 +12,7 @@ use Rattle.places.proofs.search.find.Statement.{statement}
 use Rattle.places.proofs.search.find.Tie as tie
 
 abbrev Inv-loop : tie.InvT-loop
-Inv-loop numbers lives spans from each number n shortest home h span j₀ j = ((j ≤ span) × (span ≤ n)) × ((home < n) × (n ≤ 65535)) × ((from + n ≤ length numbers) × (from + n ≤ length lives)) × Leaves n home span (λ i. holds numbers lives number (from + i)) j
+Inv-loop numbers lives spans from each number n shortest home h span j₀ j = ((j ≤ span) × (span ≤ n)) × ((home < n) × (n ≤ mostPlaces)) × ((from + n ≤ length numbers) × (from + n ≤ length lives)) × Leaves n home span (λ i. holds numbers lives number (from + i)) j
 
 abbrev μ-loop : tie.MeasureT-loop
 μ-loop numbers lives spans from each number n shortest home h span j₀ j = span - j

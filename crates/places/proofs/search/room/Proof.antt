@@ -1,18 +1,19 @@
 -- The places passed are live, so an empty one is room and the way round says that there is none.
 use mathlib.Core.Bool.{not, false}
-use mathlib.Core.Path.{sym, ap, _∙_}
+use mathlib.Core.Path.{ap}
 use Prim.Native.Nat.{_+_, _-_, _<_, _≤_}
 use native.Mathlib.Omega.{arith}
 use denote.Ref.{now}
 use lib.ListN.{length, getD}
+use Rattle.places.specs.Homes.{mostPlaces}
 use Rattle.places.proofs.Rounds.{Leaves, leaves-all, leaves-more}
-use Rattle.places.proofs.Sought.{stands, free-outside, free-nowhere, free-here}
+use Rattle.places.proofs.Sought.{stands, room-outside, room-nowhere, room-here}
 use borrow.Author.Needs.{needs}
 use Rattle.places.proofs.search.room.Statement.{statement}
 use Rattle.places.proofs.search.room.Tie as tie
 
 abbrev Inv-loop : tie.InvT-loop
-Inv-loop lives from each number n home j₀ j = (j ≤ n) × ((home < n) × (n ≤ 65535)) × (from + n ≤ length lives) × Leaves n home n (λ i. not (getD lives (from + i) false)) j
+Inv-loop lives from each number n home j₀ j = (j ≤ n) × ((home < n) × (n ≤ mostPlaces)) × (from + n ≤ length lives) × Leaves n home n (λ i. not (getD lives (from + i) false)) j
 
 abbrev μ-loop : tie.MeasureT-loop
 μ-loop lives from each number n home j₀ j = n - j
@@ -25,7 +26,7 @@ lies-outside-requires c κs = search needs
 
 returns : tie.Need-returns Inv-loop μ-loop
 returns c = let a = c .before .before .before .before .args in
-    free-outside (now (a .lives)) (a .from) (a .each) (a .number) _ _ (c .before .before .wide .ensures) (c .before .lies-outside .ensures) (c .if1 .taken)
+    room-outside (now (a .lives)) (a .from) (a .each) (a .number) _ _ (c .before .before .wide .ensures) (c .before .lies-outside .ensures) (c .if1 .taken)
 
 home-of-requires : tie.Need-home-of-requires Inv-loop μ-loop
 home-of-requires c κs = search needs
@@ -56,12 +57,12 @@ loop-again c = let l = c .before .before .before .before .loop in
 returns-2 : tie.Need-returns-2 Inv-loop μ-loop
 returns-2 c = let a = c .before .before .before .before .before .before .before .args in
     let l = c .before .loop in
-    free-nowhere (now (a .lives)) (a .from) (a .each) (a .number) _ _ (c .before .before .before .before .before .wide .ensures) (c .before .before .before .before .lies-outside .ensures) (c .before .before .before .if1 .left) _ (c .before .before .home-of .ensures) (l .j) (l .inv .3) (c .if2 .taken)
+    room-nowhere (now (a .lives)) (a .from) (a .each) (a .number) _ _ (c .before .before .before .before .before .wide .ensures) (c .before .before .before .before .lies-outside .ensures) (c .before .before .before .if1 .left) _ (c .before .before .home-of .ensures) (l .j) (l .inv .3) (c .if2 .taken)
 
 returns-3 : tie.Need-returns-3 Inv-loop μ-loop
 returns-3 c = let a = c .before .before .before .before .before .before .before .before .before .before .args in
     let l = c .before .before .before .before .loop in
-    free-here (now (a .lives)) (a .from) (a .each) (a .number) _ _ (c .before .before .before .before .before .before .before .before .wide .ensures) (c .before .before .before .before .before .before .before .lies-outside .ensures) (c .before .before .before .before .before .before .if1 .left) _ (c .before .before .before .before .before .home-of .ensures) (l .j) (l .inv .3) _ (c .before .before .round-from .ensures .0) (omega arith) (c .if3 .left)
+    room-here (now (a .lives)) (a .from) (a .each) (a .number) _ _ (c .before .before .before .before .before .before .before .before .wide .ensures) (c .before .before .before .before .before .before .before .lies-outside .ensures) (c .before .before .before .before .before .before .if1 .left) _ (c .before .before .before .before .before .home-of .ensures) (l .j) (l .inv .3) _ (c .before .before .round-from .ensures .0) (omega arith) (c .if3 .left)
 
 pub room-spec : {M : Type 1} → statement M
 room-spec =

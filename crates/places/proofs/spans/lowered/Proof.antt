@@ -4,7 +4,7 @@ use Prim.Native.Nat.{_+_, _-_, _<_, _≤_, min}
 use native.Mathlib.Omega.{arith}
 use denote.Ref.{now}
 use lib.ListN.{length}
-use Rattle.places.specs.Homes.{homed}
+use Rattle.places.specs.Homes.{mostPlaces, homed}
 use Rattle.places.proofs.Rounds.{Remains, remains-less}
 use Rattle.places.proofs.Sought.{stands, lowered-outside, lowered-none, lowered-here}
 use borrow.Author.Needs.{needs}
@@ -12,7 +12,7 @@ use Rattle.places.proofs.spans.lowered.Statement.{statement}
 use Rattle.places.proofs.spans.lowered.Tie as tie
 
 abbrev Inv-loop : tie.InvT-loop
-Inv-loop numbers lives span from each number n shortest home j₀ j = (j ≤ n) × ((home < n) × (n ≤ 65535)) × ((from + n ≤ length numbers) × (from + n ≤ length lives)) × Remains n home (min span each) (λ i. homed each numbers lives home (from + i)) j
+Inv-loop numbers lives span from each number n shortest home j₀ j = (j ≤ n) × ((home < n) × (n ≤ mostPlaces)) × ((from + n ≤ length numbers) × (from + n ≤ length lives)) × Remains n home (min span each) (λ i. homed each numbers lives home (from + i)) j
 
 abbrev μ-loop : tie.MeasureT-loop
 μ-loop numbers lives span from each number n shortest home j₀ j = j

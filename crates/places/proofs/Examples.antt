@@ -1,25 +1,27 @@
--- By computation: two live orders of one home on a shelf of four places, the second not at it but round the end, are mirrored and near, so that what a search asks for is met by more than
--- empty places. It is asked for with reason: where the home's span reaches the first order alone, the second is live and is not found.
+-- By computation: two live numbers of one home on a shelf of four places, the second not at it but round the end, are mirrored and near, so that what a search asks for is met by more
+-- than empty places. It is asked for with reason: where the home's span reaches the first alone, the second is live and is not found.
 use mathlib.Core.Bool.{Bool, true, false, false≢true}
 use mathlib.Core.List.{List, [], _∷_}
 use mathlib.Core.Path.{_≡_, refl}
 use Prim.Native.Nat.{ℕ, zero, suc, _+_, _<_}
 use native.Mathlib.Omega.{arith}
+use lib.Dec.{ltb}
 use lib.ListN.{getD}
 use Rattle.places.specs.Homes.{homeOf, roundFrom, awayFrom, firstRound, lastRound, outside, soughtIn, freeIn, raisedTo, loweredTo, Mirrored, Near}
-use Rattle.orders.specs.State.{noOrder, orderNumber, orderLive}
-use Rattle.orders.specs.Rules.{orderOf}
-use Rattle.orders.specs.declared.Order.{Order}
 
--- the halves of both numbers have the sum 3
+-- the halves of both have the sum 3
 abbrev at-home : ℕ
 at-home = 3
 
 abbrev beside : ℕ
 beside = 4294967298
 
-abbrev shelf : List Order
-shelf = orderOf beside true 10000 200 ∷ noOrder ∷ noOrder ∷ orderOf at-home true 10000 100 ∷ []
+-- a place is a number, and live unless that is 0
+abbrev key : ℕ → ℕ
+key a = a
+
+abbrev live : ℕ → Bool
+live a = ltb 0 a
 
 abbrev numbers : List ℕ
 numbers = beside ∷ 0 ∷ 0 ∷ at-home ∷ []
@@ -34,7 +36,7 @@ pub one-home : (homeOf 4 at-home ≡ 3) × (homeOf 4 beside ≡ 3)
 unfolding homeOf
 one-home = (refl, refl)
 
-pub two-mirrored : Mirrored orderNumber orderLive shelf numbers lives
+pub two-mirrored : Mirrored key live numbers numbers lives
 two-mirrored = record { numbers = refl; lives = refl }
 
 near-each : (i : ℕ) → i < 4 → getD lives (0 + i) false ≡ true → awayFrom 4 (homeOf 4 (getD numbers (0 + i) 0)) i < getD spans (0 + homeOf 4 (getD numbers (0 + i) 0)) 0
@@ -56,7 +58,8 @@ pub missed-past-a-span : soughtIn numbers lives (0 ∷ 0 ∷ 0 ∷ 1 ∷ []) 0 4
 unfolding soughtIn outside homeOf firstRound roundFrom
 missed-past-a-span = refl
 
-pub room-from-the-home-on : freeIn lives 0 4 at-home ≡ 1
+-- from the first place on it would be 1; the home of 1 is 2
+pub room-from-the-home-on : freeIn lives 0 4 1 ≡ 2
 unfolding freeIn outside homeOf firstRound roundFrom
 room-from-the-home-on = refl
 
