@@ -62,11 +62,11 @@ fn number_in(c: Change) -> u64
 {
     match c {
         Change::Nothing => 0,
-        Change::Add(order, buy, price, volume) => order,
-        Change::Modify(order, buy, price, volume) => order,
+        Change::Add(order, _, _, _) => order,
+        Change::Modify(order, _, _, _) => order,
         Change::Delete(order) => order,
-        Change::Execute(order, volume) => order,
-        Change::Replace(old, order, buy, price, volume) => old,
+        Change::Execute(order, _) => order,
+        Change::Replace(old, _, _, _, _) => old,
     }
 }
 

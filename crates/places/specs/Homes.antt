@@ -1,5 +1,6 @@
--- Where a number is looked for: from its home on, going round its shelf, as far as live numbers of that home lie. What the searches' contracts cite; which place a home is
--- matters to nothing but time. A shelf is n places from place `from` on. Searches read three lists: the numbers, whether each is live, and the spans.
+-- Where a number is looked for: from its home on, going round its shelf, as far as live numbers of that home lie. The searches' contracts cite it, and so does what holds of every
+-- state; no rule does, and no answer hangs on it: which place a home is matters to nothing but time. A shelf is n places from place `from` on. Searches read three lists: the numbers,
+-- whether each is live, and the spans.
 use mathlib.Core.Bool.{Bool, true, false, cond, not}
 use mathlib.Core.List.{List, map}
 use mathlib.Core.Path.{_≡_}
@@ -48,7 +49,7 @@ lastRound n h (suc m) p = cond (p (roundFrom n h m)) (suc m) (lastRound n h m p)
 unfoldable pub outside : ℕ → ℕ → ℕ → Bool
 outside from n long = cond (eqb n 0) true (ltb long (from + n))
 
--- at a place a number is live; one of a home is
+-- whether a number is live at a place, and whether one of a home is
 abbrev pub holds : List ℕ → List Bool → ℕ → ℕ → Bool
 holds numbers lives number p = cond (getD lives p false) (eqb (getD numbers p 0) number) false
 
