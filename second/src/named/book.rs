@@ -185,7 +185,7 @@ fn replaces(cases: &mut Cases) {
         ],
     );
     cases.both(
-        "replace-of-the-last-place",
+        "replace-of-the-last-order",
         &[
             adds(64),
             vec![replace(65, 64, 65, BUY, 1, 1), add(66, 64, BUY, 1, 1)],
