@@ -19,7 +19,7 @@ use Rattle.places.proofs.Mirroring.{as-many-numbers, as-many-marks, mirrored-se
 use Rattle.places.proofs.EightShelves.{shelf-reach, nothing-past, store-own, store-other, store-singles, emptied-own, emptied-other, emptied-singles}
 use Rattle.orders.specs.State.{ordersEach, noOrder, orderNumber, orderLive, shelfAt, liveAt, Wf}
 use Rattle.orders.specs.Rules.{applyTo}
-use Rattle.orders.specs.Deciding.{liveOrders, Decides, stays, lands, misfits, crowds, withOrder, settledAt, emptiedTo}
+use Rattle.orders.specs.Deciding.{liveOrders, allBut, Decides, stays, lands, misfits, crowds, withOrder, settledAt, emptiedTo}
 use Rattle.orders.specs.Promises.{fitNumber, Obeys, Changes, Clears}
 use Rattle.orders.specs.declared.Order.{Order}
 use Rattle.orders.specs.declared.Orders.{Orders}
@@ -80,8 +80,8 @@ module _ (b : Orders) (k : ℕ) (h : k < symbols) (s : Sized b) (i : ℕ) (o : O
     }
 
 -- ---- what was decided, settled: one place after the other
-module _ (b : Orders) (k : ℕ) (h : k < symbols) (s : Sized b) (gone place : ℕ) (o : Order) (rest os : List Order)
-    (p : Lands orderNumber orderLive ordersEach (shelfAt b k) gone noOrder rest) (q : Lands orderNumber orderLive ordersEach (placed ordersEach (shelfAt b k) gone noOrder) place o os) where
+module _ (b : Orders) (k : ℕ) (h : k < symbols) (s : Sized b) (gone place : ℕ) (o : Order) (os : List Order)
+    (p : Lands orderNumber orderLive ordersEach (shelfAt b k) gone noOrder (allBut (shelfAt b k) gone)) (q : Lands orderNumber orderLive ordersEach (placed ordersEach (shelfAt b k) gone noOrder) place o os) where
   abbrev left : Orders
   left = withOrder b k gone noOrder
 
@@ -91,19 +91,19 @@ module _ (b : Orders) (k : ℕ) (h : k < symbols) (s : Sized b) (gone place : �
   lands-obeys : Wf b → Obeys b k (fits os) (record { orders = withOrder left k place o; fit = code.Fit.Fits })
   unfolding fitted liveAt
   lands-obeys w = record {
-    wf = store-sound left k h (store-sized b k h s gone noOrder) place o os then (store-sound b k h s gone noOrder rest p w);
+    wf = store-sound left k h (store-sized b k h s gone noOrder) place o os then (store-sound b k h s gone noOrder (allBut (shelfAt b k) gone) p w);
     fit = refl;
     own = store-own orderNumber orderLive ordersEach (left .places) k place o os then;
     others = λ m ne. store-other orderNumber orderLive ordersEach (left .places) k place o m ne ∙ store-other orderNumber orderLive ordersEach (b .places) k gone noOrder m ne;
   }
 
 module _ (b : Orders) (k : ℕ) (h : k < symbols) (s : Sized b) where
-  settled-obeys : (v : Verdict) (x : Fit (List Order)) → Decides (shelfAt b k) v x → Wf b → Obeys b k x (settledAt b k v)
+  settled-obeys : (roomFor : ℕ → ℕ) (v : Verdict) (x : Fit (List Order)) → Decides (shelfAt b k) roomFor v x → Wf b → Obeys b k x (settledAt b k v)
   unfolding fitted liveAt
-  settled-obeys v x (lands {gone = gone} {place = place} {o = o} {rest = rest} {os = os} p q) w = lands-obeys b k h s gone place o rest os p q w
-  settled-obeys v x stays w = record { wf = w; fit = refl; own = refl; others = λ m ne. refl }
-  settled-obeys v x misfits w = record { wf = w; fit = refl; own = refl; others = λ m ne. refl }
-  settled-obeys v x crowds w = record { wf = w; fit = refl; own = refl; others = λ m ne. refl }
+  settled-obeys roomFor v x (lands {gone = gone} {place = place} {o = o} {os = os} p q near) w = lands-obeys b k h s gone place o os p q w
+  settled-obeys roomFor v x stays w = record { wf = w; fit = refl; own = refl; others = λ m ne. refl }
+  settled-obeys roomFor v x misfits w = record { wf = w; fit = refl; own = refl; others = λ m ne. refl }
+  settled-obeys roomFor v x crowds w = record { wf = w; fit = refl; own = refl; others = λ m ne. refl }
 
 -- where no place is emptied first
 pub settled-once : (b : Orders) (k : ℕ) (v : Verdict) (gone place : ℕ) (o : Order) → v ≡ Verdict.Fits gone place o → ordersEach ≤ gone
@@ -118,12 +118,12 @@ settled-kept b k Verdict.NoRoom ne = refl
 
 -- ---- so a change that is judged and settled keeps its promise
 module _ (b : Orders) (k : ℕ) (c : Change) where
-  pub changes : (v : Verdict) → Sized b → k < symbols → (Wf b → Decides (shelfAt b k) v (applyTo (liveOrders (shelfAt b k)) c)) → Changes b k c (settledAt b k v)
+  pub changes : (roomFor : ℕ → ℕ) (v : Verdict) → Sized b → k < symbols → (Wf b → Decides (shelfAt b k) roomFor v (applyTo (liveOrders (shelfAt b k)) c)) → Changes b k c (settledAt b k v)
   unfolding liveAt
-  changes v s h p = record {
+  changes roomFor v s h p = record {
     kept = settled-kept b k v;
     outside = λ o. absurd (omega (arith, h, o));
-    obeys = λ j w. settled-obeys b k h s v (applyTo (liveAt b k) c) (p w) w;
+    obeys = λ j w. settled-obeys b k h s roomFor v (applyTo (liveAt b k) c) (p w) w;
   }
 
   pub changes-nothing : symbols ≤ k → Changes b k c (record { orders = b; fit = code.Fit.Misfit })

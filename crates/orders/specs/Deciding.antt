@@ -1,12 +1,14 @@
 -- Decide, then store: the contracts of searches, of decisions on small values and of stores. No rule of document 01 stands here, and nothing here need be believed.
-use mathlib.Core.Bool.{Bool, false, cond}
+use mathlib.Core.Bool.{Bool, true, false, cond}
 use mathlib.Core.List.{List}
-use Prim.Native.Nat.{ℕ, _+_, _*_}
+use mathlib.Core.Option.{none}
+use mathlib.Core.Path.{_≡_}
+use Prim.Native.Nat.{ℕ, _*_, _<_}
 use lib.Dec.{ltb}
-use lib.ListN.{getD, set}
+use lib.ListN.{getD}
 use Rattle.feed.specs.Reader.{Fit, fits, misfit, no-room}
-use Rattle.places.specs.Places.{shelf, inOrder, Shelf, FoundAt, FreeAt, placed, placedIn, Lands, emptied}
-use Rattle.places.specs.Homes.{raisedAt, loweredAt, Mirrored, Near}
+use Rattle.places.specs.Places.{shelf, remove, look, inOrder, Shelf, FoundAt, FreeAt, placed, placedIn, Lands, emptied}
+use Rattle.places.specs.Homes.{spansAfter, Mirrored, Near}
 use Rattle.orders.specs.State.{ordersEach, noOrder, orderNumber, orderLive}
 use Rattle.orders.specs.declared.Fit as code
 use Rattle.orders.specs.declared.Order.{Order}
@@ -43,27 +45,30 @@ pub record Searchable (l : List Order) (numbers : List ℕ) (lives : List Bool) 
   pub mirrored : Mirrored orderNumber orderLive l numbers lives
   pub near : Near numbers lives spans (k * ordersEach) ordersEach
 
--- ---- a verdict is what the rule says of the live orders: one place is emptied, then the order goes to its own
-pub data Decides (l : List Order) : Verdict → Fit (List Order) → Type 0 where
-  stays : Decides l Verdict.Stays (fits (liveOrders l))
-  lands : {gone place : ℕ} {o : Order} {rest os : List Order} → Lands orderNumber orderLive ordersEach l gone noOrder rest → Lands orderNumber orderLive ordersEach (placed ordersEach l gone noOrder) place o os
-      → Decides l (Verdict.Fits gone place o) (fits os)
-  misfits : Decides l Verdict.Misfit misfit
-  crowds : Decides l Verdict.NoRoom no-room
+-- what is live once place i is emptied: all but the order that lay there
+abbrev pub allBut : List Order → ℕ → List Order
+allBut l i = cond (ltb i ordersEach) (remove orderNumber (getD l i noOrder .number) (liveOrders l)) (liveOrders l)
+
+-- an order whose number was not live goes to the place that has room for that number, if there is one
+abbrev pub TakesRoom : (ℕ → ℕ) → List Order → ℕ → Order → Type 0
+TakesRoom roomFor l place o = o .live ≡ true → look orderNumber (o .number) (liveOrders l) ≡ none → roomFor (o .number) < ordersEach → place ≡ roomFor (o .number)
+
+-- ---- a verdict is what the rule says of the live orders: one place is emptied, then the order goes to its own, which is the one with room for it where it is new
+pub data Decides (l : List Order) (roomFor : ℕ → ℕ) : Verdict → Fit (List Order) → Type 0 where
+  stays : Decides l roomFor Verdict.Stays (fits (liveOrders l))
+  lands : {gone place : ℕ} {o : Order} {os : List Order} → Lands orderNumber orderLive ordersEach l gone noOrder (allBut l gone)
+      → Lands orderNumber orderLive ordersEach (placed ordersEach l gone noOrder) place o os → TakesRoom roomFor l place o → Decides l roomFor (Verdict.Fits gone place o) (fits os)
+  misfits : Decides l roomFor Verdict.Misfit misfit
+  crowds : Decides l roomFor Verdict.NoRoom no-room
 
 -- ---- the stores
--- the span of the new order's home is raised, then that of the home of the number that stood there is lowered
-abbrev pub spansAfter : Orders → ℕ → ℕ → Order → List ℕ
-spansAfter b k i o =
-    loweredAt (set (b .numbers) (k * ordersEach + i) (o .number)) (set (b .lives) (k * ordersEach + i) (o .live))
-    (raisedAt (b .spans) (k * ordersEach) ordersEach i (o .number) (o .live)) (k * ordersEach) ordersEach (getD (b .numbers) (k * ordersEach + i) 0)
-
+-- an order at place i of symbol k: its number and mark beside it, and the spans follow
 abbrev pub withOrder : Orders → ℕ → ℕ → Order → Orders
 withOrder b k i o = record {
   places = placedIn ordersEach k (b .places) i o;
   numbers = placedIn ordersEach k (b .numbers) i (o .number);
   lives = placedIn ordersEach k (b .lives) i (o .live);
-  spans = cond (ltb i ordersEach) (spansAfter b k i o) (b .spans);
+  spans = cond (ltb i ordersEach) (spansAfter (b .numbers) (b .lives) (b .spans) (k * ordersEach) ordersEach i (o .number) (o .live)) (b .spans);
 }
 
 abbrev pub settledAt : Orders → ℕ → Verdict → Changed

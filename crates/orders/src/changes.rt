@@ -18,9 +18,10 @@ use crate::search::room;
 use places::SYMBOLS;
 ghost use mathlib.Core.Path.{_≡_};
 ghost use mathlib.Core.List.{List};
-ghost use Prim.Native.Nat.{_<_};
+ghost use Prim.Native.Nat.{_<_, _*_};
 ghost use lib.ListN.{getD};
 ghost use Rattle.places.specs.Places.{symbols, shelf};
+ghost use Rattle.places.specs.Homes.{freeIn};
 ghost use Rattle.orders.specs.State.{ordersEach, noOrder};
 ghost use Rattle.orders.specs.Rules.{applyTo};
 ghost use Rattle.orders.specs.Deciding.{named, liveOrders, OrderAt, Searchable, Decides};
@@ -81,7 +82,7 @@ fn judge<'a>(
     c: Change,
 ) -> Verdict
     requires { ⌜ k < symbols ⌝ }
-    ensures { λ r. ⌜ ((l : List Order) → Searchable l (now (numbers .entry)) (now (lives .entry)) (now (spans .entry)) k → OrderAt (named c) (shelf ordersEach k l) i → (i < ordersEach → x ≡ getD (shelf ordersEach k l) i noOrder) → Decides (shelf ordersEach k l) r (applyTo (liveOrders (shelf ordersEach k l)) c)) ⌝ }
+    ensures { λ r. ⌜ ((l : List Order) → Searchable l (now (numbers .entry)) (now (lives .entry)) (now (spans .entry)) k → OrderAt (named c) (shelf ordersEach k l) i → (i < ordersEach → x ≡ getD (shelf ordersEach k l) i noOrder) → Decides (shelf ordersEach k l) (freeIn (now (lives .entry)) (k * ordersEach) ordersEach) r (applyTo (liveOrders (shelf ordersEach k l)) c)) ⌝ }
 {
     match c {
         Change::Nothing => Verdict::Stays,

@@ -6,7 +6,7 @@ use crate::no_order;
 ghost use mathlib.Core.Path.{_≡_};
 ghost use mathlib.Core.Bool.{true};
 ghost use mathlib.Core.List.{List};
-ghost use Prim.Native.Nat.{_<_};
+ghost use Prim.Native.Nat.{ℕ, _<_};
 ghost use lib.ListN.{getD};
 ghost use Rattle.orders.specs.State.{ordersEach, noOrder};
 ghost use Rattle.orders.specs.Deciding.{OrderShelf, OrderAt, OrderRoom, Decides, liveOrders};
@@ -33,7 +33,7 @@ pub(crate) fn judge_add(
     price: u32,
     volume: u32,
 ) -> Verdict
-    ensures { λ r. ⌜ ((l : List Order) → OrderShelf l → OrderAt order l i → OrderRoom l j → Decides l r (applyTo (liveOrders l) (Change.Add order buy price volume))) ⌝ }
+    ensures { λ r. ⌜ ((l : List Order) (roomFor : ℕ → ℕ) → OrderShelf l → OrderAt order l i → OrderRoom l j → j ≡ roomFor order → Decides l roomFor r (applyTo (liveOrders l) (Change.Add order buy price volume))) ⌝ }
 {
     if i < ORDERS {
         return Verdict::Misfit;
@@ -63,7 +63,7 @@ pub(crate) fn judge_modify(
     price: u32,
     volume: u32,
 ) -> Verdict
-    ensures { λ r. ⌜ ((l : List Order) → OrderShelf l → OrderAt order l i → (i < ordersEach → x ≡ getD l i noOrder) → Decides l r (applyTo (liveOrders l) (Change.Modify order buy price volume))) ⌝ }
+    ensures { λ r. ⌜ ((l : List Order) (roomFor : ℕ → ℕ) → OrderShelf l → OrderAt order l i → (i < ordersEach → x ≡ getD l i noOrder) → Decides l roomFor r (applyTo (liveOrders l) (Change.Modify order buy price volume))) ⌝ }
 {
     if ORDERS <= i {
         return Verdict::Misfit;
@@ -86,7 +86,7 @@ pub(crate) fn judge_modify(
 }
 
 pub(crate) fn judge_delete(i: usize, order: u64) -> Verdict
-    ensures { λ r. ⌜ ((l : List Order) → OrderShelf l → OrderAt order l i → Decides l r (applyTo (liveOrders l) (Change.Delete order))) ⌝ }
+    ensures { λ r. ⌜ ((l : List Order) (roomFor : ℕ → ℕ) → OrderShelf l → OrderAt order l i → Decides l roomFor r (applyTo (liveOrders l) (Change.Delete order))) ⌝ }
 {
     if ORDERS <= i {
         return Verdict::Misfit;
@@ -101,7 +101,7 @@ pub(crate) fn judge_delete(i: usize, order: u64) -> Verdict
 
 // What is left stands at the order's own price; where nothing is left, the order is gone.
 pub(crate) fn judge_execute(i: usize, x: Order, order: u64, volume: u32) -> Verdict
-    ensures { λ r. ⌜ ((l : List Order) → OrderShelf l → OrderAt order l i → (i < ordersEach → x ≡ getD l i noOrder) → Decides l r (applyTo (liveOrders l) (Change.Execute order volume))) ⌝ }
+    ensures { λ r. ⌜ ((l : List Order) (roomFor : ℕ → ℕ) → OrderShelf l → OrderAt order l i → (i < ordersEach → x ≡ getD l i noOrder) → Decides l roomFor r (applyTo (liveOrders l) (Change.Execute order volume))) ⌝ }
 {
     if ORDERS <= i {
         return Verdict::Misfit;
@@ -144,7 +144,7 @@ pub(crate) fn judge_replace(
     price: u32,
     volume: u32,
 ) -> Verdict
-    ensures { λ r. ⌜ ((l : List Order) → OrderShelf l → OrderAt old l i → OrderAt order l j → OrderRoom l free → (i < ordersEach → x ≡ getD l i noOrder) → Decides l r (applyTo (liveOrders l) (Change.Replace old order buy price volume))) ⌝ }
+    ensures { λ r. ⌜ ((l : List Order) (roomFor : ℕ → ℕ) → OrderShelf l → OrderAt old l i → OrderAt order l j → OrderRoom l free → free ≡ roomFor order → (i < ordersEach → x ≡ getD l i noOrder) → Decides l roomFor r (applyTo (liveOrders l) (Change.Replace old order buy price volume))) ⌝ }
 {
     if ORDERS <= i {
         return Verdict::Misfit;

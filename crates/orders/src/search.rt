@@ -9,7 +9,7 @@ ghost use mathlib.Core.List.{List};
 ghost use Prim.Native.Nat.{ℕ, _<_, _*_};
 ghost use lib.Dec.{ltb};
 ghost use Rattle.places.specs.Places.{symbols, shelf};
-ghost use Rattle.places.specs.Homes.{Mirrored, Near};
+ghost use Rattle.places.specs.Homes.{freeIn, Mirrored, Near};
 ghost use Rattle.orders.specs.State.{ordersEach, orderNumber, orderLive};
 ghost use Rattle.orders.specs.Deciding.{OrderAt, OrderRoom};
 
@@ -27,10 +27,10 @@ pub(crate) fn find<'a>(
     places::find(numbers, lives, spans, k * ORDERS, EACH, number)
 }
 
-// An empty place for an order of this number, or ORDERS.
+// An empty place for an order of this number, the first from its home on, or ORDERS.
 pub(crate) fn room(lives: &[bool; PLACES], k: usize, number: u64) -> usize
     requires { ⌜ k < symbols ⌝ }
-    ensures { λ r. ⌜ ((l : List Order) (ns : List ℕ) → Mirrored orderNumber orderLive l ns (now (lives .entry)) → OrderRoom (shelf ordersEach k l) r) ⌝ }
+    ensures { λ r. ⌜ (r ≡ freeIn (now (lives .entry)) (k * ordersEach) ordersEach number) × ((l : List Order) (ns : List ℕ) → Mirrored orderNumber orderLive l ns (now (lives .entry)) → OrderRoom (shelf ordersEach k l) r) ⌝ }
 {
     places::room(lives, k * ORDERS, EACH, number)
 }

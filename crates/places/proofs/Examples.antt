@@ -7,7 +7,7 @@ use Prim.Native.Nat.{ℕ, zero, suc, _+_, _<_}
 use native.Mathlib.Omega.{arith}
 use lib.Dec.{ltb}
 use lib.ListN.{getD}
-use Rattle.places.specs.Homes.{homeOf, roundFrom, awayFrom, firstRound, lastRound, outside, soughtIn, freeIn, raisedTo, loweredTo, Mirrored, Near}
+use Rattle.places.specs.Homes.{homeOf, roundFrom, awayFrom, firstRound, lastRound, outside, soughtIn, freeIn, raisedTo, loweredTo, spansAfter, Mirrored, Near}
 
 -- the halves of both have the sum 3
 abbrev at-home : ℕ
@@ -36,6 +36,11 @@ pub one-home : (homeOf 4 at-home ≡ 3) × (homeOf 4 beside ≡ 3)
 unfolding homeOf
 one-home = (refl, refl)
 
+-- homes are spread over the whole shelf, however wide
+pub far-apart : (homeOf 64 1 ≡ 39) × (homeOf 64 2 ≡ 15) × (homeOf 256 1 ≡ 158)
+unfolding homeOf
+far-apart = (refl, refl, refl)
+
 pub two-mirrored : Mirrored key live numbers numbers lives
 two-mirrored = record { numbers = refl; lives = refl }
 
@@ -63,11 +68,16 @@ pub room-from-the-home-on : freeIn lives 0 4 1 ≡ 2
 unfolding freeIn outside homeOf firstRound roundFrom
 room-from-the-home-on = refl
 
--- the second came, and goes again
-pub raised-as-far-as-it-lies : raisedTo 4 beside true 0 1 ≡ 2
-unfolding raisedTo homeOf awayFrom
-raised-as-far-as-it-lies = refl
+-- a store at the first place: the second number comes to the one at home; it gives way to 1; it goes. The span of the home that gains reaches as far as the number lies, that of the home
+-- that loses as far as the one at home, past whatever else is live
+pub comes : spansAfter (0 ∷ 0 ∷ 0 ∷ at-home ∷ []) (false ∷ false ∷ false ∷ true ∷ []) (0 ∷ 0 ∷ 0 ∷ 1 ∷ []) 0 4 0 beside true ≡ spans
+unfolding raisedTo loweredTo outside homeOf awayFrom lastRound roundFrom
+comes = refl
 
-pub lowered-to-the-first : loweredTo (0 ∷ 0 ∷ 0 ∷ at-home ∷ []) (false ∷ false ∷ false ∷ true ∷ []) 0 4 beside 2 ≡ 1
-unfolding loweredTo outside homeOf lastRound roundFrom
-lowered-to-the-first = refl
+pub gives-way : spansAfter numbers lives spans 0 4 0 1 true ≡ 0 ∷ 0 ∷ 3 ∷ 1 ∷ []
+unfolding raisedTo loweredTo outside homeOf awayFrom lastRound roundFrom
+gives-way = refl
+
+pub goes : spansAfter numbers lives spans 0 4 0 0 false ≡ 0 ∷ 0 ∷ 0 ∷ 1 ∷ []
+unfolding raisedTo loweredTo outside homeOf awayFrom lastRound roundFrom
+goes = refl

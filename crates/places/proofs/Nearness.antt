@@ -5,7 +5,7 @@ use mathlib.Core.List.{List}
 use mathlib.Core.Path.{_≡_, refl, sym, ap, _∙_}
 use Prim.Native.Nat.{ℕ, _+_, _*_, _<_, _≤_, min}
 use native.Mathlib.Omega.{arith}
-use borrow.Author.Tests.{lt-ltb, eqb-true, eqb-false, leb-true, leb-false}
+use borrow.Author.Tests.{not-true, not-false, lt-ltb, eqb-true, eqb-false, leb-true, leb-false}
 use lib.Dec.{eqb, leb}
 use lib.ListN.{length, getD, set, length-set, replicate}
 use lib.Seq.{getD-set-same, getD-set-other}
@@ -54,14 +54,6 @@ module _ (lives : List Bool) (from n number : ℕ) (some : 0 < n) (in-lives : fr
 
   free-is : freeIn lives from n number ≡ firstRound n (homeOf n number) n 0 empty-at
   free-is = free-inside lives from n number (not-outside from n (length lives) some in-lives)
-
-  not-true : (t : Bool) → not t ≡ true → t ≡ false
-  not-true true e = absurd (false≢true e)
-  not-true false e = refl
-
-  not-false : (t : Bool) → not t ≡ false → t ≡ true
-  not-false true e = refl
-  not-false false e = absurd (true≢false e)
 
   pub free-there : freeIn lives from n number < n → getD lives (from + freeIn lives from n number) false ≡ false
   free-there h = rw free-is (not-true _ (first-there n (homeOf n number) empty-at n 0 (rw free-is at h)))

@@ -1,4 +1,4 @@
--- Going round from a home every place is met, each once; so what a search passed, and how far a span reaches, is known of every place.
+-- Going round from a home every place is met; so what a search passed, and how far a span reaches, is known of every place.
 use mathlib.Core.Bool.{Bool, true, false, cond, true≢false}
 use mathlib.Core.Path.{_≡_, refl}
 use Prim.Native.Nat.{ℕ, zero, suc, _+_, _-_, _*_, _<_, _≤_}

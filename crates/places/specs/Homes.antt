@@ -76,12 +76,17 @@ loweredTo numbers lives from n number span =
     cond (outside from n (min (length numbers) (length lives))) span
     (lastRound n (homeOf n number) (min span n) (λ i. homed n numbers lives (homeOf n number) (from + i)))
 
--- the spans after a store at place i, where the number `was` gives way to another one: that of the new one's home is raised, then that of the old one's is lowered
+-- the spans of a shelf with that of one home raised, or lowered
 abbrev pub raisedAt : List ℕ → ℕ → ℕ → ℕ → ℕ → Bool → List ℕ
 raisedAt spans from n i number live = set spans (from + homeOf n number) (raisedTo n number live i (getD spans (from + homeOf n number) 0))
 
 abbrev pub loweredAt : List ℕ → List Bool → List ℕ → ℕ → ℕ → ℕ → List ℕ
 loweredAt numbers lives spans from n was = set spans (from + homeOf n was) (loweredTo numbers lives from n was (getD spans (from + homeOf n was) 0))
+
+-- the spans after a store at place i, where the number that stood there gives way to another one: that of the new one's home is raised, then that of the old one's is lowered
+abbrev pub spansAfter : List ℕ → List Bool → List ℕ → ℕ → ℕ → ℕ → ℕ → Bool → List ℕ
+spansAfter numbers lives spans from n i number live =
+    loweredAt (set numbers (from + i) number) (set lives (from + i) live) (raisedAt spans from n i number live) from n (getD numbers (from + i) 0)
 
 -- ---- what holds wherever searches are made
 -- the numbers and the marks are those of the elements

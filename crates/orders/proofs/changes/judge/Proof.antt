@@ -47,22 +47,22 @@ judge-replace-requires : tie.Need-judge-replace-requires
 judge-replace-requires c κs = search needs
 
 returns : tie.Need-returns
-returns c l s at x = rw (c .enum-told .given .1) (nothing-fits _)
+returns c l s at x = rw (c .enum-told .given .1) (nothing-fits _ _)
 
 returns-2 : tie.Need-returns-2
-returns-2 c l s at x = rw (c .before .before .before .c .given .1) (c .judge-add .ensures _ (s .whole) (rw (c .before .before .before .c .given .1) at at) (c .before .room .ensures _ _ (s .mirrored)))
+returns-2 c l s at x = rw (c .before .before .before .c .given .1) (c .judge-add .ensures _ _ (s .whole) (rw (c .before .before .before .c .given .1) at at) (c .before .room .ensures .1 _ _ (s .mirrored)) (c .before .room .ensures .0))
 
 returns-3 : tie.Need-returns-3
-returns-3 c l s at x = rw (c .before .before .c2 .given .1) (c .judge-modify .ensures _ (s .whole) (rw (c .before .before .c2 .given .1) at at) x)
+returns-3 c l s at x = rw (c .before .before .c2 .given .1) (c .judge-modify .ensures _ _ (s .whole) (rw (c .before .before .c2 .given .1) at at) x)
 
 returns-4 : tie.Need-returns-4
-returns-4 c l s at x = rw (c .before .before .c3 .given .1) (c .judge-delete .ensures _ (s .whole) (rw (c .before .before .c3 .given .1) at at))
+returns-4 c l s at x = rw (c .before .before .c3 .given .1) (c .judge-delete .ensures _ _ (s .whole) (rw (c .before .before .c3 .given .1) at at))
 
 returns-5 : tie.Need-returns-5
-returns-5 c l s at x = rw (c .before .before .c4 .given .1) (c .judge-execute .ensures _ (s .whole) (rw (c .before .before .c4 .given .1) at at) x)
+returns-5 c l s at x = rw (c .before .before .c4 .given .1) (c .judge-execute .ensures _ _ (s .whole) (rw (c .before .before .c4 .given .1) at at) x)
 
 returns-6 : tie.Need-returns-6
-returns-6 c l s at x = rw (c .before .before .before .before .c5 .given .1) (c .judge-replace .ensures _ (s .whole) (rw (c .before .before .before .before .c5 .given .1) at at) (c .before .before .find .ensures _ (s .mirrored) (s .near)) (c .before .room2 .ensures _ _ (s .mirrored)) x)
+returns-6 c l s at x = rw (c .before .before .before .before .c5 .given .1) (c .judge-replace .ensures _ _ (s .whole) (rw (c .before .before .before .before .c5 .given .1) at at) (c .before .before .find .ensures _ (s .mirrored) (s .near)) (c .before .room2 .ensures .1 _ _ (s .mirrored)) (c .before .room2 .ensures .0) x)
 
 pub judge-spec : {M : Type 1} → statement M
 judge-spec =

@@ -12,7 +12,7 @@ room-requires : tie.Need-room-requires
 room-requires c κs = search needs
 
 returns : tie.Need-returns
-returns c l ns w = let a = c .before .before .args in free (now (a .lives)) (c .before .room-arg .given .0) (a .k) (c .before .before .pre) (a .number) l ns w _ (c .room .ensures)
+returns c = let a = c .before .before .args in (c .room .ensures, λ l ns w. free (now (a .lives)) (c .before .room-arg .given .0) (a .k) (c .before .before .pre) (a .number) l ns w _ (c .room .ensures))
 
 pub room-spec : {M : Type 1} → statement M
 room-spec = tie.close (tie.spec mul-room room-requires returns)
