@@ -37,9 +37,15 @@ settle-requires : tie.Need-settle-requires
 settle-requires c κs = search needs
 
 returns-2 : tie.Need-returns-2
-returns-2 c = let s = c .before .before .before .before .before .before .before .before .before .before .before .before .before .before .before in
-    let h = c .before .before .before .before .before .before .before .before .before .before .before .before .before .before .if1 .left in
-    rw (c .settle .ensures) (changes (s .args .t1) _ _ _ _ (sized (s .args .t1) _ (s .good .0)) h (λ w. c .before .judge .ensures _ (searchable (s .args .t1) _ (s .good .0) _ h w) (rw (c .before .before .before .before .before .before .before .before .before .before .before .before .before .number-in .ensures) at (c .before .before .before .before .before .before .before .before .find .ensures _ (w .mirrored) (w .near _ h))) (λ g. rw (c .before .before .before .before .before .before .before .place-or-first .ensures .0) (looked-at (s .args .t1 .places) _ _ g))))
+returns-2 c =
+    let f = c .before .before .before .before .before .before .before .before in
+    let h = f .before .before .before .before .before .before .if1 .left in
+    let s = f .before .before .before .before .before .before .before in
+    let b = s .args .t1 in
+    rw (c .settle .ensures)
+    (changes b _ _ _ _ (sized b _ (s .good .0)) h (λ w.
+    c .before .judge .ensures _ (searchable b _ (s .good .0) _ h w) (rw (f .before .before .before .before .before .number-in .ensures) at (f .find .ensures _ (w .mirrored) (w .near _ h)))
+    (λ g. rw (c .before .before .before .before .before .before .before .place-or-first .ensures .0) (looked-at (b .places) _ _ g))))
 
 pub change-spec : {M : Type 1} → statement M
 change-spec =

@@ -79,7 +79,10 @@ element-write-self-4 : tie.Need-element-write-self-4
 element-write-self-4 c = omega (arith, home-in _ _ (c .before .before .before .before .before .before .before .home-of2 .ensures))
 
 returns-2 : tie.Need-returns-2
-returns-2 c = rw (c .lowered .ensures, c .before .before .before .before .before .before .before .before .raised .ensures, c .before .before .before .before .before .before .before .before .before .before .home-of .ensures, c .before .before .before .before .before .before .before .home-of2 .ensures, lt-ltb _ _ (c .before .before .before .before .before .before .before .before .before .before .before .before .if1 .left))
+returns-2 c =
+    let l = c .before .before .before .before .before .before .before in
+    let g = l .before .before .before in
+    rw (c .lowered .ensures, l .before .raised .ensures, g .home-of .ensures, l .home-of2 .ensures, lt-ltb _ _ (g .before .before .if1 .left))
 
 pub put-order-spec : {M : Type 1} → statement M
 put-order-spec =

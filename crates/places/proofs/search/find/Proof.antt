@@ -82,16 +82,23 @@ loop-again c = let l = c .before .before .before .before .before .before .loop i
     ((omega arith, l .inv .0 .1), l .inv .1, l .inv .2, leaves-more _ _ _ _ (l .j) (omega arith) (rw (c .before .before .before .before .round-from .ensures .0) at (sym (c .before .is-held .ensures) ∙ c .if3 .left)) (l .inv .3))
 
 returns-2 : tie.Need-returns-2 Inv-loop μ-loop
-returns-2 c = let a = c .before .before .before .before .before .before .before .before .before .before .before .before .before .args in
+returns-2 c =
+    let s = c .before .before .before .before in
+    let a = s .before .before .before .before .before .before .before .before .before .args in
     let l = c .before .loop in
-    sought-nowhere (now (a .numbers)) (now (a .lives)) (now (a .spans)) (a .from) (a .each) (a .number) _ _ _ (c .before .before .before .before .before .before .before .before .before .wide .ensures) (rw (c .before .before .before .before .before .before .before .before .least .ensures) at (c .before .before .before .before .before .before .before .least2 .ensures)) (c .before .before .before .before .before .before .lies-outside .ensures) (c .before .before .before .before .before .if1 .left)
-    _ _ (c .before .before .before .before .home-of .ensures) (c .before .before .capped .ensures) (l .j) (l .inv .3) (c .if2 .taken)
+    sought-nowhere (now (a .numbers)) (now (a .lives)) (now (a .spans)) (a .from) (a .each) (a .number) _ _ _ (s .before .before .before .before .before .wide .ensures)
+    (rw (s .before .before .before .before .least .ensures) at (s .before .before .before .least2 .ensures)) (s .before .before .lies-outside .ensures)
+    (s .before .if1 .left) _ _ (s .home-of .ensures) (c .before .before .capped .ensures) (l .j) (l .inv .3) (c .if2 .taken)
 
 returns-3 : tie.Need-returns-3 Inv-loop μ-loop
-returns-3 c = let a = c .before .before .before .before .before .before .before .before .before .before .before .before .before .before .before .before .before .before .args in
+returns-3 c =
+    let s = c .before .before .before .before .before .before .before .before .before in
+    let a = s .before .before .before .before .before .before .before .before .before .args in
     let l = c .before .before .before .before .before .before .loop in
-    sought-here (now (a .numbers)) (now (a .lives)) (now (a .spans)) (a .from) (a .each) (a .number) _ _ _ (c .before .before .before .before .before .before .before .before .before .before .before .before .before .before .wide .ensures) (rw (c .before .before .before .before .before .before .before .before .before .before .before .before .before .least .ensures) at (c .before .before .before .before .before .before .before .before .before .before .before .before .least2 .ensures)) (c .before .before .before .before .before .before .before .before .before .before .before .lies-outside .ensures) (c .before .before .before .before .before .before .before .before .before .before .if1 .left)
-    _ _ (c .before .before .before .before .before .before .before .before .before .home-of .ensures) (c .before .before .before .before .before .before .before .capped .ensures) (l .j) (l .inv .3) _ (c .before .before .before .before .round-from .ensures .0) (omega arith) (sym (c .before .is-held .ensures) ∙ c .if3 .taken)
+    sought-here (now (a .numbers)) (now (a .lives)) (now (a .spans)) (a .from) (a .each) (a .number) _ _ _ (s .before .before .before .before .before .wide .ensures)
+    (rw (s .before .before .before .before .least .ensures) at (s .before .before .before .least2 .ensures)) (s .before .before .lies-outside .ensures)
+    (s .before .if1 .left) _ _ (s .home-of .ensures) (c .before .before .before .before .before .before .before .capped .ensures) (l .j) (l .inv .3) _
+    (c .before .before .before .before .round-from .ensures .0) (omega arith) (sym (c .before .is-held .ensures) ∙ c .if3 .taken)
 
 pub find-spec : {M : Type 1} → statement M
 find-spec =

@@ -55,14 +55,21 @@ loop-again c = let l = c .before .before .before .before .loop in
     (omega arith, l .inv .1, l .inv .2, leaves-more _ _ _ _ (l .j) (omega arith) (ap not (rw (c .before .before .round-from .ensures .0) at (c .if3 .taken))) (l .inv .3))
 
 returns-2 : tie.Need-returns-2 Inv-loop μ-loop
-returns-2 c = let a = c .before .before .before .before .before .before .before .args in
+returns-2 c =
+    let s = c .before .before in
+    let a = s .before .before .before .before .before .args in
     let l = c .before .loop in
-    room-nowhere (now (a .lives)) (a .from) (a .each) (a .number) _ _ (c .before .before .before .before .before .wide .ensures) (c .before .before .before .before .lies-outside .ensures) (c .before .before .before .if1 .left) _ (c .before .before .home-of .ensures) (l .j) (l .inv .3) (c .if2 .taken)
+    room-nowhere (now (a .lives)) (a .from) (a .each) (a .number) _ _
+    (s .before .before .before .wide .ensures) (s .before .before .lies-outside .ensures) (s .before .if1 .left) _ (s .home-of .ensures) (l .j) (l .inv .3) (c .if2 .taken)
 
 returns-3 : tie.Need-returns-3 Inv-loop μ-loop
-returns-3 c = let a = c .before .before .before .before .before .before .before .before .before .before .args in
+returns-3 c =
+    let s = c .before .before .before .before .before in
+    let a = s .before .before .before .before .before .args in
     let l = c .before .before .before .before .loop in
-    room-here (now (a .lives)) (a .from) (a .each) (a .number) _ _ (c .before .before .before .before .before .before .before .before .wide .ensures) (c .before .before .before .before .before .before .before .lies-outside .ensures) (c .before .before .before .before .before .before .if1 .left) _ (c .before .before .before .before .before .home-of .ensures) (l .j) (l .inv .3) _ (c .before .before .round-from .ensures .0) (omega arith) (c .if3 .left)
+    room-here (now (a .lives)) (a .from) (a .each) (a .number) _ _
+    (s .before .before .before .wide .ensures) (s .before .before .lies-outside .ensures) (s .before .if1 .left) _ (s .home-of .ensures) (l .j) (l .inv .3) _
+    (c .before .before .round-from .ensures .0) (omega arith) (c .if3 .left)
 
 pub room-spec : {M : Type 1} → statement M
 room-spec =

@@ -42,9 +42,12 @@ loop-holds c = let n = c .before .before .before .before .before .wide .ensures 
     (omega (arith, c .capped .ensures, n), (z .home, omega (arith, n)), (omega (arith, z .fits, c .before .before .before .before .least .ensures), omega (arith, z .fits, c .before .before .before .before .least .ensures)), rw (c .capped .ensures))
 
 returns-2 : tie.Need-returns-2 Inv-loop μ-loop
-returns-2 c = let a = c .before .before .before .before .before .before .before .before .before .before .args in
+returns-2 c =
+    let s = c .before .before .before in
+    let a = s .before .before .before .before .before .before .before .args in
     let l = c .before .loop in
-    lowered-none (now (a .numbers)) (now (a .lives)) (a .from) (a .each) (a .number) (a .span) _ _ _ (c .before .before .before .before .before .before .before .wide .ensures) (c .before .before .before .before .before .before .least .ensures) (c .before .before .before .before .before .lies-outside .ensures) (c .before .before .before .before .if1 .left) _ (c .before .before .before .home-of .ensures) (l .j) (l .inv .3) (c .if2 .taken)
+    lowered-none (now (a .numbers)) (now (a .lives)) (a .from) (a .each) (a .number) (a .span) _ _ _
+    (s .before .before .before .before .wide .ensures) (s .before .before .before .least .ensures) (s .before .before .lies-outside .ensures) (s .before .if1 .left) _ (s .home-of .ensures) (l .j) (l .inv .3) (c .if2 .taken)
 
 sub-round-from : tie.Need-sub-round-from Inv-loop μ-loop
 sub-round-from c = search needs
@@ -71,10 +74,13 @@ cast-result : tie.Need-cast-result Inv-loop μ-loop
 cast-result c = search needs
 
 returns-3 : tie.Need-returns-3 Inv-loop μ-loop
-returns-3 c = let a = c .before .before .before .before .before .before .before .before .before .before .before .before .before .before .before .args in
+returns-3 c =
+    let s = c .before .before .before .before .before .before .before .before in
+    let a = s .before .before .before .before .before .before .before .args in
     let l = c .before .before .before .before .before .before .loop in
-    lowered-here (now (a .numbers)) (now (a .lives)) (a .from) (a .each) (a .number) (a .span) _ _ _ (c .before .before .before .before .before .before .before .before .before .before .before .before .wide .ensures) (c .before .before .before .before .before .before .before .before .before .before .before .least .ensures) (c .before .before .before .before .before .before .before .before .before .before .lies-outside .ensures) (c .before .before .before .before .before .before .before .before .before .if1 .left)
-    _ (c .before .before .before .before .before .before .before .before .home-of .ensures) (l .j) (l .inv .3) _ (c .before .before .before .before .round-from .ensures .0) (omega arith) (sym (c .before .has-home .ensures) ∙ c .if3 .taken)
+    lowered-here (now (a .numbers)) (now (a .lives)) (a .from) (a .each) (a .number) (a .span) _ _ _
+    (s .before .before .before .before .wide .ensures) (s .before .before .before .least .ensures) (s .before .before .lies-outside .ensures) (s .before .if1 .left)
+    _ (s .home-of .ensures) (l .j) (l .inv .3) _ (c .before .before .before .before .round-from .ensures .0) (omega arith) (sym (c .before .has-home .ensures) ∙ c .if3 .taken)
 
 sub-j : tie.Need-sub-j Inv-loop μ-loop
 sub-j c = search needs
