@@ -1,9 +1,9 @@
 //! What is printed of the named cases of request M-111, line by line, written by hand from
 //! document 01's table.
 
-use second::named::Cases;
-use second::probe::probe;
-use second::program::painterend;
+mod common;
+
+use common::{printed, probed};
 
 /// Size and first bad offset of each message of `each-bad-field-alone`.
 const ALONE: [&str; 24] = [
@@ -35,21 +35,6 @@ const SEVERAL: [&str; 27] = [
 /// Calls on ABC that leave its book and record as they were.
 fn idle(lines: &str) -> String {
     format!("G,0\n{lines}Q,0,,,,\nV,0,0,1\n")
-}
-
-fn probed(name: &str) -> String {
-    probe(&named(&format!("{name}.calls")))
-}
-
-fn printed(name: &str) -> String {
-    let bytes = named(&format!("{name}.feed"));
-    let mut page = Vec::new();
-    painterend(&mut bytes.as_slice(), &mut page).expect("memory reads and writes");
-    String::from_utf8(page).expect("a page is ASCII")
-}
-
-fn named(file: &str) -> Vec<u8> {
-    Cases::all().file(file).expect("a named case").to_vec()
 }
 
 fn offset(row: &str) -> &str {

@@ -1,9 +1,9 @@
 //! What is printed of the named cases of request M-107, line by line, written by hand from document
 //! 01's table and source 001's lists.
 
-use second::named::Cases;
-use second::probe::probe;
-use second::program::painterend;
+mod common;
+
+use common::{printed, probed};
 
 /// Size and first bad offset of each message of `each-bad-condition-alone`.
 const ALONE: [&str; 8] = [
@@ -25,21 +25,6 @@ const BEHIND: [&str; 14] = [
     "42,4", "42,32", "42,36", "42,4", "42,4", "42,32", "42,4", // 103
     "33,4", "33,24", "33,28", "33,4", "33,4", "33,24", "33,4", // 110
 ];
-
-fn named(file: &str) -> Vec<u8> {
-    Cases::all().file(file).expect("a named case").to_vec()
-}
-
-fn probed(name: &str) -> String {
-    probe(&named(&format!("{name}.calls")))
-}
-
-fn printed(name: &str) -> String {
-    let bytes = named(&format!("{name}.feed"));
-    let mut page = Vec::new();
-    painterend(&mut bytes.as_slice(), &mut page).expect("memory reads and writes");
-    String::from_utf8(page).expect("a page is ASCII")
-}
 
 /// Calls on ABC that leave its book and record as they were.
 fn idle(lines: &str) -> String {

@@ -3,42 +3,36 @@
 //! 64 in all 32 times 32, and sells even ones, 32 times 33. The n-th call, from 0 on, bids 10,000 and
 //! n and asks 20,000 less n.
 
-use second::named::Cases;
-use second::probe::probe;
-use second::program::painterend;
+mod common;
 
-fn named(file: &str) -> Vec<u8> {
-    let file = Cases::all().file(file).map(<[u8]>::to_vec);
-    file.expect("a named case")
-}
-
-fn probed(name: &str) -> String {
-    probe(&named(&format!("{name}.calls")))
-}
-
-fn printed(name: &str) -> String {
-    let bytes = named(&format!("{name}.feed"));
-    let mut page = Vec::new();
-    painterend(&mut bytes.as_slice(), &mut page).expect("memory reads and writes");
-    String::from_utf8(page).expect("a page is ASCII")
-}
+use common::{printed, probed};
 
 /// The lines of a book of 64.
-const FULL: &str = "G,0\nX,1,2496\nQ,0,10000,1024,20000,1056\n";
+const FILLED: &str = "G,0\nX,1,2496\nQ,0,10000,1024,20000,1056\n";
+
+/// The same, and all of its orders found.
+const FULL: &str =
+    "G,0\nX,1,2496\nQ,0,10000,1024,20000,1056\nX,1,2240\nQ,0,10001,1024,19999,1056\n";
 
 /// What follows in a stale symbol: a run that finds two orders, a delete, an add and a clear.
 const STALE: &str = "X,1,70\nQ,8,,,,\nS,8,25\nQ,8,,,,\nS,8,39\nQ,8,,,,\nS,0,20\nQ,0,,,,\n";
 
-/// A fill of two orders, and the end.
-fn two_at(bid: u32, ask: u32, whole: u8) -> String {
-    let quote = format!("Q,0,{bid},1,{ask},2\n");
-    format!("X,1,78\n{quote}{quote}V,0,0,{whole}\n")
+/// The end: as the n-th call so many orders come again, then all of them are found. The odd shares
+/// up to the k-th are a square, the even ones twice a triangle.
+fn again(call: u32, orders: u32, whole: u8) -> String {
+    let even = orders / 2;
+    let odd = orders - even;
+    let (bids, asks) = (odd * odd, even * (even + 1));
+    let quote = |call| format!("Q,0,{},{bids},{},{asks}\n", 10_000 + call, 20_000 - call);
+    let (filled, found) = (quote(call), quote(call + 1));
+    let (adds, finds) = (39 * orders, 35 * orders);
+    format!("X,1,{adds}\n{filled}X,1,{finds}\n{found}{found}V,0,0,{whole}\n")
 }
 
 #[test]
 fn a_full_family_has_no_room_for_one_more() {
     let adds = "S,10,39\nQ,8,,,,\nX,1,35\nQ,8,,,,\nS,8,39\nQ,8,,,,\n";
-    let end = two_at(10_008, 19_992, 0);
+    let end = again(9, 64, 0);
     assert_eq!(
         probed("a-full-family-and-two-more-adds"),
         format!("{FULL}{adds}{STALE}{end}")
@@ -55,13 +49,13 @@ fn one_free_place_of_a_family_is_used_once() {
     ] {
         let lines = format!(
             "\
-{FULL}S,0,25\nQ,0,10000,{bids},20000,{asks}
+{FILLED}S,0,25\nQ,0,10000,{bids},20000,{asks}
 X,1,2205\nQ,0,10002,{bids},19998,{asks}
 S,0,39\nQ,0,10002,{bids},19997,500
 X,1,35\nQ,0,10002,{bids},19996,500
 S,10,39\nQ,8,,,,
 {STALE}{}",
-            two_at(10_010, 19_990, 0)
+            again(10, 63, 0)
         );
         let name = format!("a-family-without-its-{free}-and-two-more-adds");
         assert_eq!(probed(&name), lines, "{name}");
@@ -70,26 +64,30 @@ S,10,39\nQ,8,,,,
 
 #[test]
 fn a_live_order_does_not_fit_again_wherever_a_place_is_free() {
+    // After the replace the order that it was to be is looked for.
     let tries = [
-        ("an-add-of-the-last", "S,9,39"),
-        ("a-replace-of-the-first-by-the-last", "S,9,42"),
+        ("an-add-of-the-last", "S,9,39\nQ,8,,,,\n", 7),
+        (
+            "a-replace-of-the-first-by-the-last",
+            "S,9,42\nQ,8,,,,\nX,1,35\nQ,8,,,,\n",
+            8,
+        ),
     ];
-    for (name, refused) in tries {
+    for (name, refused, call) in tries {
         let full = format!("a-full-family-and-{name}");
-        let end = two_at(10_006, 19_994, 0);
+        let end = again(call, 64, 0);
         assert_eq!(
             probed(&full),
-            format!("{FULL}{refused}\nQ,8,,,,\n{STALE}{end}"),
+            format!("{FULL}{refused}{STALE}{end}"),
             "{full}"
         );
         for (free, bids, asks) in [("first", 1023, 1056), ("middle", 991, 1056)] {
             let lines = format!(
                 "\
-{FULL}S,0,25\nQ,0,10000,{bids},20000,{asks}
+{FILLED}S,0,25\nQ,0,10000,{bids},20000,{asks}
 X,1,2205\nQ,0,10002,{bids},19998,{asks}
-{refused}\nQ,8,,,,
-{STALE}{}",
-                two_at(10_008, 19_992, 0)
+{refused}{STALE}{}",
+                again(call + 1, 63, 0)
             );
             let name = format!("a-family-without-its-{free}-and-{name}");
             assert_eq!(probed(&name), lines, "{name}");
@@ -99,10 +97,15 @@ X,1,2205\nQ,0,10002,{bids},19998,{asks}
 
 #[test]
 fn a_full_family_lets_an_order_be_replaced() {
-    // Of the two that are found then one is the 33rd, the other the 64th.
-    let replaced =
-        format!("{FULL}S,0,42\nQ,0,10001,500,20000,1056\nX,1,70\nQ,0,10002,33,19998,64\n");
-    let itself = "S,0,25\nQ,0,10002,33,19998,64\nS,0,39\nQ,0,10002,33,19996,7\nS,0,20\nQ,0,,,,\n";
+    // The new order is found; then two more are, the 33rd and the 64th.
+    let replaced = format!(
+        "\
+{FULL}S,0,42\nQ,0,10002,500,19999,1056
+X,1,35\nQ,0,10003,500,19999,1056
+X,1,70\nQ,0,10004,33,19996,64
+"
+    );
+    let itself = "S,0,25\nQ,0,10004,33,19996,64\nS,0,39\nQ,0,10004,33,19994,7\nS,0,20\nQ,0,,,,\n";
     let gone = "S,9,25\nQ,8,,,,\nS,8,39\nQ,8,,,,\nS,0,20\nQ,0,,,,\n";
     for (by, lines, whole) in [
         ("itself", itself, 1),
@@ -110,8 +113,30 @@ fn a_full_family_lets_an_order_be_replaced() {
         ("0", gone, 0),
     ] {
         let name = format!("a-full-family-and-a-replace-of-the-first-by-{by}");
-        let end = two_at(10_006, 19_994, whole);
+        let end = again(8, 64, whole);
         assert_eq!(probed(&name), format!("{replaced}{lines}{end}"), "{name}");
+    }
+}
+
+/// The first and the last are of two families, and the 33rd may be gone.
+#[test]
+fn no_order_is_replaced_by_a_live_one_of_another_family() {
+    let refused = "S,9,42\nQ,8,,,,\nS,0,20\nQ,0,,,,\n";
+    let full = format!("{FULL}{refused}{}", again(4, 64, 0));
+    let less_one = format!(
+        "\
+{FILLED}X,1,25\nQ,0,10000,991,20000,1056
+X,1,2205\nQ,0,10002,991,19998,1056
+{refused}{}",
+        again(5, 64, 0)
+    );
+    for sums in ["next-sums", "sums-34-apart"] {
+        for replace in ["the-first-by-the-last", "the-last-by-the-first"] {
+            for (book, lines) in [("full", &full), ("less-one", &less_one)] {
+                let name = format!("two-families-of-{sums}-{book}-and-a-replace-of-{replace}");
+                assert_eq!(&probed(&name), lines, "{name}");
+            }
+        }
     }
 }
 
@@ -123,42 +148,57 @@ fn level(price: u32, shares: u32) -> String {
     }
 }
 
-/// The odd shares up to the k-th are a square, the even ones twice a triangle. Each delete leaves
-/// the prices of the find before it, each find puts all orders at its own.
+/// Each delete leaves the prices of the find before it, each find puts all orders at its own.
 #[test]
 fn each_order_of_a_family_is_found_until_it_goes() {
-    let mut lines = format!("{FULL}X,1,2240\nQ,0,10001,1024,19999,1056\n");
-    for gone in 1..=64 {
-        let even = gone / 2;
-        let odd = gone - even;
-        let (bids, asks) = (1024 - odd * odd, 1056 - even * (even + 1));
-        let quote = |find| {
-            let bid = level(10_000 + find, bids);
-            format!("Q,0,{bid},{}\n", level(20_000 - find, asks))
-        };
-        lines += &format!("S,0,25\n{}", quote(2 * gone - 1));
-        if gone < 64 {
-            let size = 35 * (64 - gone);
-            lines += &format!("X,1,{size}\n{}", quote(2 * gone + 1));
+    let orders: [(&str, Vec<u32>); 3] = [
+        ("from-the-first-on", (1..=64).collect()),
+        ("from-the-last-on", (1..=64).rev().collect()),
+        (
+            "from-the-middle-outwards",
+            (1..=32).flat_map(|far| [32 + far, 33 - far]).collect(),
+        ),
+    ];
+    for (name, leaving) in orders {
+        let mut lines = FULL.to_string();
+        let (mut bids, mut asks) = (1024, 1056);
+        for (gone, shares) in (1..).zip(leaving) {
+            if shares % 2 == 1 {
+                bids -= shares;
+            } else {
+                asks -= shares;
+            }
+            let quote = |find: u32| {
+                let bid = level(10_000 + find, bids);
+                format!("Q,0,{bid},{}\n", level(20_000 - find, asks))
+            };
+            lines += &format!("S,0,25\n{}", quote(2 * gone - 1));
+            if gone < 64 {
+                let size = 35 * (64 - gone);
+                lines += &format!("X,1,{size}\n{}", quote(2 * gone + 1));
+            }
         }
+        // The first is added after a clear, with 70 shares, and the other 63 beside it.
+        lines += "S,9,25\nQ,8,,,,\nS,0,20\nQ,0,,,,\n";
+        lines += "S,0,39\nQ,0,10131,70,,\nX,1,35\nQ,0,10132,70,,\n";
+        lines += "X,1,2457\nQ,0,10133,1024,19867,992\n";
+        lines += "X,1,2240\nQ,0,10134,1094,19866,992\nQ,0,10134,1094,19866,992\nV,0,0,0\n";
+        assert_eq!(probed(&format!("a-full-family-emptied-{name}")), lines);
     }
-    // The first is added after a clear, with 70 shares, and the other 63 beside it.
-    lines += "S,9,25\nQ,8,,,,\nS,0,20\nQ,0,,,,\n";
-    lines += "S,0,39\nQ,0,10131,70,,\nX,1,35\nQ,0,10132,70,,\n";
-    lines += "X,1,2457\nQ,0,10133,1024,19867,992\n";
-    lines += "X,1,2240\nQ,0,10134,1094,19866,992\nQ,0,10134,1094,19866,992\nV,0,0,0\n";
-    assert_eq!(probed("a-full-family-emptied-from-the-first-on"), lines);
 }
+
+/// The changes of order 0, and their sizes.
+const OF_ORDER_0: [(&str, u32); 4] = [
+    ("a-modify", 35),
+    ("a-delete", 25),
+    ("an-execute", 42),
+    ("a-replace", 42),
+];
 
 /// Order 0 is the number that an unused place may hold.
 #[test]
 fn order_0_is_not_live_before_it_is_added() {
-    for (change, size) in [
-        ("a-modify", 35),
-        ("a-delete", 25),
-        ("an-execute", 42),
-        ("a-replace", 42),
-    ] {
+    for (change, size) in OF_ORDER_0 {
         let name = format!("{change}-of-order-0-in-an-empty-book");
         let quote = "Q,0,10004,30,,\n";
         let lines = format!(
@@ -173,6 +213,124 @@ S,0,35\n{quote}{quote}V,0,0,0
         );
         assert_eq!(probed(&name), lines, "{name}");
     }
+}
+
+/// The first of four goes, which is order 0, or the first of three others of its family.
+#[test]
+fn an_empty_place_is_not_order_0() {
+    let four = "X,1,156\nQ,0,10000,4,20000,6\nS,0,25\nQ,0,10000,3,20000,6\n";
+    let three = "X,1,117\nQ,0,10000,4,20000,2\nS,0,25\nQ,0,10000,3,20000,2\n";
+    for (change, size) in OF_ORDER_0 {
+        for (state, filled) in [("it", four), ("another", three)] {
+            let name = format!("{change}-of-order-0-after-{state}-went");
+            let quote = "Q,0,10006,30,,\n";
+            let lines = format!(
+                "\
+G,0
+{filled}S,9,{size}\nQ,8,,,,
+S,8,39\nQ,8,,,,
+S,0,20\nQ,0,,,,
+S,0,39\nQ,0,10005,20,,
+S,0,35\n{quote}{quote}V,0,0,0
+"
+            );
+            assert_eq!(probed(&name), lines, "{name}");
+        }
+    }
+    let lines = format!(
+        "\
+G,0
+{three}S,0,39\nQ,0,10000,3,19998,10
+S,0,35\nQ,0,10000,3,19997,20
+X,1,105\nQ,0,10004,3,19996,22
+S,0,25\nQ,0,10004,3,19996,2
+X,1,70\nQ,0,10006,3,19994,2
+S,9,25\nQ,8,,,,
+S,0,20\nQ,0,,,,
+S,0,39\nQ,0,10009,70,,
+X,1,35\nQ,0,10010,70,,\nQ,0,10010,70,,\nV,0,0,0
+"
+    );
+    assert_eq!(probed("an-add-of-order-0-after-another-went"), lines);
+}
+
+/// In the first and the seventh symbol stand the four orders that are added in the eighth.
+#[test]
+fn the_neighbours_of_the_eighth_symbol_stay() {
+    let neighbours = "Q,0,500,4,,\nQ,0,,,500,8\n";
+    let calls: String = [
+        "X,1,117\nQ,0,10000,4,20000,2\n",
+        "S,0,25\nQ,0,10000,3,20000,2\n",
+        "S,9,25\nQ,8,,,,\n",
+        "S,8,39\nQ,8,,,,\n",
+        "S,0,20\nQ,0,,,,\n",
+        "S,0,39\nQ,0,10005,20,,\n",
+        "S,0,35\nQ,0,10006,30,,\n",
+    ]
+    .map(|call| format!("{call}{neighbours}"))
+    .concat();
+    let lines = format!(
+        "\
+{}X,1,156\nX,1,156
+{calls}X,1,140\nX,1,140
+Q,0,10006,30,,\nQ,0,600,4,,\nQ,0,,,600,8
+V,0,0,0\nV,0,0,1\nV,0,0,1
+",
+        "G,0\n".repeat(8)
+    );
+    let name = "a-delete-of-order-0-after-another-went-in-the-eighth-symbol";
+    assert_eq!(probed(name), lines);
+}
+
+/// 40 members of a family and the first 20 of them with another bit, from that call on. The last 20
+/// with the other bit come and go; then the first 20 members go, and come again with 600 shares when
+/// the number beside them was found.
+fn two_of_each_number(first: u32) -> String {
+    let (bid, ask) = (10_000 + first, 20_000 - first);
+    let filled = format!("Q,0,{bid},900,{ask},930\n");
+    let mut lines = format!("X,1,2340\n{filled}");
+    for turn in 0..20 {
+        let added = bid + 2 * turn + 1;
+        lines += &format!("S,0,39\nQ,0,{added},500,{ask},930\nS,0,25\n{filled}");
+    }
+    // The first buy and the first sell that go are seen to go; after that other prices are better.
+    let mut bids = format!("{bid},899");
+    let mut asks = format!("{ask},930");
+    for shares in 1..=20 {
+        if shares == 2 {
+            asks = format!("{ask},928");
+        }
+        lines += &format!("S,0,25\nQ,0,{bids},{asks}\n");
+        let call = 39 + 3 * shares;
+        if shares % 2 == 1 {
+            bids = format!("{},{}", bid + call, 40 + shares);
+        } else {
+            asks = format!("{},{}", ask - call, 40 + shares);
+        }
+        lines += &format!("X,1,35\nQ,0,{bids},{asks}\n");
+        bids = format!("{},600", bid + call + 1);
+        lines += &format!("S,0,39\nQ,0,{bids},{asks}\n");
+    }
+    // Buys: 20 times 600, the odd shares from 21 to 59; sells: the even ones from 22 to 60.
+    let (bid, ask) = (bid + 101, ask - 101);
+    lines + &format!("X,1,2100\nQ,0,{bid},12800,{ask},820\n")
+}
+
+#[test]
+fn numbers_that_differ_in_one_bit_are_two() {
+    let end = "Q,0,10101,12800,19899,820\nV,0,0,1\n";
+    assert_eq!(
+        probed("numbers-that-differ-in-the-highest-bit"),
+        format!("G,0\n{}{end}", two_of_each_number(0))
+    );
+    // Four bits, each after a clear: 103 calls.
+    let bits = [1, 104, 207, 310].map(two_of_each_number);
+    let bits = bits.map(|lines| format!("S,0,20\nQ,0,,,,\n{lines}"));
+    let end = "Q,0,10411,12800,19589,820\nV,0,0,1\n";
+    assert_eq!(
+        probed("numbers-that-differ-in-one-high-bit"),
+        format!("G,0\n{}{end}", bits.concat())
+    );
 }
 
 /// 0 and 2^32 are buys, 1 and 2^64 - 1 sells.
@@ -204,7 +362,16 @@ S,0,25\nQ,0,,,,
 S,0,39\nQ,0,10020,10,,
 ";
     assert_eq!(text.get(..first_half.len()), Some(first_half));
-    assert!(text.ends_with("S,0,42\nQ,0,,,,\nQ,0,,,,\nV,0,0,1\n"));
+    // After 40 calls all four come, and 1 and 2^32 go.
+    let end = "\
+S,0,42\nQ,0,,,,
+X,1,156\nQ,0,10040,4,19960,6
+X,1,140\nQ,0,10041,4,19959,6
+X,1,50\nQ,0,10041,1,19959,4
+X,1,70\nQ,0,10043,1,19957,4
+Q,0,10043,1,19957,4\nV,0,0,1
+";
+    assert!(text.ends_with(end), "{text}");
 }
 
 #[test]

@@ -4,29 +4,28 @@
 use std::ops::Range;
 
 use super::random::Random;
+use crate::book::LIVE_ORDERS;
 
-/// The order numbers whose halves of 32 bits have this sum.
+/// The order numbers whose halves of 32 bits have this sum, where its carry is lost.
 #[derive(Clone, Copy, PartialEq, Eq, Hash, Debug)]
 pub struct Family {
-    sum: u64,
+    sum: u32,
 }
 
 impl Family {
-    pub const fn of_sum(sum: u64) -> Family {
+    pub const fn of_sum(sum: u32) -> Family {
         Family { sum }
     }
 
     /// The family that an order number belongs to.
     #[cfg(test)]
     pub fn of_order(order: u64) -> Family {
-        Family::of_sum((order >> 32) + u64::from(order as u32))
+        Family::of_sum(((order >> 32) as u32).wrapping_add(order as u32))
     }
 
     /// The member with that high half.
     pub fn member(self, high: u32) -> u64 {
-        let low = self.sum.checked_sub(u64::from(high));
-        let low = low.filter(|low| *low <= u64::from(u32::MAX));
-        u64::from(high) << 32 | low.expect("both halves of a member have 32 bits")
+        u64::from(high) << 32 | u64::from(self.sum.wrapping_sub(high))
     }
 
     /// The members with these high halves.
@@ -39,33 +38,55 @@ impl Family {
 /// come again.
 #[derive(Clone, Debug)]
 pub struct Pool {
-    families: Vec<Family>,
-    /// How many members each family has here.
-    members: u32,
+    orders: Vec<u64>,
 }
 
 impl Pool {
-    /// Two to four families, some with homes that are likely near each other.
+    /// Two to four families, some with homes that are likely near each other. At times order 0 and
+    /// the last one are there too.
     pub fn drawn(random: &mut Random) -> Pool {
-        let count = 2 + random.below(3);
-        let least = 1_000 + random.below(1_000_000) as u64;
-        let mut families = vec![Family::of_sum(least)];
-        while families.len() < count {
-            let far = random.below(1_000_000) as u64;
-            let apart = random.pick(&[1, 2, 63, 64, 512, far]);
-            let family = Family::of_sum(least + apart);
-            if !families.contains(&family) {
-                families.push(family);
-            }
+        let families = 2 + random.below(3);
+        let spare = random.pick(&[6, 16, 36]);
+        let members = ((LIVE_ORDERS + spare) / families + 1) as u32;
+        let (any, bit) = (1_000 + random.u32_below(1_000_000), high_bit(random));
+        // The sum 0 is order 0's.
+        let sum = random.pick(&[0, any, any, any]);
+        let start = random.pick(&[0, 0, bit]);
+        let mut orders = Vec::new();
+        for apart in distances(families, random) {
+            // Moved as far as the sum, the high halves leave the low ones as in the first family.
+            let moved = start.wrapping_add(apart);
+            let first = random.pick(&[start, moved, moved]);
+            orders.extend(Family::of_sum(sum + apart).members(first..first + members));
         }
-        let members = random.pick(&[70, 80, 100]) / count as u32 + 1;
-        Pool { families, members }
+        if random.one_in(2) {
+            orders.extend([0, u64::MAX]);
+        }
+        Pool { orders }
     }
 
     pub fn order(&self, random: &mut Random) -> u64 {
-        let family = random.pick(&self.families);
-        family.member(random.u32_below(self.members))
+        random.pick(&self.orders)
     }
+}
+
+/// How far the sums of so many families are from the first one's, no two the same. Sums that are 34
+/// or 89 apart are close where homes are spread by the golden ratio.
+fn distances(families: usize, random: &mut Random) -> Vec<u32> {
+    let mut distances = vec![0];
+    while distances.len() < families {
+        let (far, bit) = (random.u32_below(1_000_000), high_bit(random));
+        let apart = random.pick(&[1, 2, 34, 63, 64, 89, 512, far, bit, bit]);
+        if !distances.contains(&apart) {
+            distances.push(apart);
+        }
+    }
+    distances
+}
+
+/// A high half that is one of the bits 40 to 63 of a number.
+fn high_bit(random: &mut Random) -> u32 {
+    1 << (8 + random.below(24))
 }
 
 #[cfg(test)]
@@ -79,17 +100,17 @@ mod tests {
     #[test]
     fn the_halves_of_a_member_have_its_family_s_sum() {
         for (sum, highs) in [
-            (0, 0..1),
+            (0, 0..100),
             (1, 0..2),
-            (1_000, 0..1_001),
-            (LARGEST_HALF, u32::MAX - 99..u32::MAX),
-            (LARGEST_HALF + 1, 1..100),
-            (2 * LARGEST_HALF - 63, u32::MAX - 63..u32::MAX),
+            (1_000, 0..2_000),
+            (u32::MAX, u32::MAX - 99..u32::MAX),
+            (u32::MAX - 64, u32::MAX - 63..u32::MAX),
         ] {
             let members = Family::of_sum(sum).members(highs.clone());
             for (high, member) in highs.clone().zip(&members) {
                 assert_eq!(member >> 32, u64::from(high), "{sum}");
-                assert_eq!((member >> 32) + (member & LARGEST_HALF), sum, "{high}");
+                let carried = (member >> 32) + (member & LARGEST_HALF);
+                assert_eq!(carried & LARGEST_HALF, u64::from(sum), "{high}");
                 assert_eq!(Family::of_order(*member), Family::of_sum(sum), "{high}");
             }
             let different: HashSet<_> = members.iter().collect();
@@ -102,20 +123,49 @@ mod tests {
         assert_eq!(Family::of_sum(1).members(0..2), [1, 1 << 32]);
         let two = Family::of_sum(1_000).members(1..3);
         assert_eq!(two, [0x0000_0001_0000_03E7, 0x0000_0002_0000_03E6]);
-        assert_eq!(Family::of_order(0), Family::of_sum(0));
-        assert_eq!(Family::of_order(u64::MAX), Family::of_sum(0x1_FFFF_FFFE));
+        assert_eq!(Family::of_sum(0).members(0..2), [0, 0x0000_0001_FFFF_FFFF]);
+        assert_eq!(Family::of_order(u64::MAX), Family::of_sum(0xFFFF_FFFE));
+    }
+
+    /// A pool and all that it has, by the seed.
+    fn pools() -> impl Iterator<Item = (u64, HashSet<u64>)> {
+        (0..100).map(|seed| {
+            let mut random = Random::new(seed, "pool");
+            let pool = Pool::drawn(&mut random);
+            let drawn = (0..2_000).map(|_| pool.order(&mut random)).collect();
+            (seed, drawn)
+        })
     }
 
     #[test]
     fn a_pool_has_few_families_and_more_orders_than_a_book() {
-        for seed in 0..100 {
-            let mut random = Random::new(seed, "pool");
-            let pool = Pool::drawn(&mut random);
-            let drawn: HashSet<u64> = (0..2_000).map(|_| pool.order(&mut random)).collect();
-            let families: HashSet<_> = drawn.iter().map(|it| Family::of_order(*it)).collect();
+        for (seed, mut orders) in pools() {
+            assert!(orders.len() < 2 * LIVE_ORDERS, "{seed}");
+            orders.retain(|order| ![0, u64::MAX].contains(order));
+            assert!(orders.len() > LIVE_ORDERS, "{seed}");
+            let families: HashSet<_> = orders.iter().map(|it| Family::of_order(*it)).collect();
             assert!((2..=4).contains(&families.len()), "{seed}");
-            assert!(drawn.len() > LIVE_ORDERS, "{seed}");
-            assert!(drawn.len() < 2 * LIVE_ORDERS, "{seed}");
         }
+    }
+
+    /// In many pools, though not in all, are order 0, the last one, a sum that carries, and numbers
+    /// that differ from another one in a single bit from the 40th on.
+    #[test]
+    fn pools_reach_the_edges_of_a_number() {
+        let carries = |it: &u64| (it >> 32) + (it & LARGEST_HALF) > LARGEST_HALF;
+        let mut counts = [0; 4];
+        for (_, orders) in pools() {
+            let differs_high = |it: &u64| (40..64).any(|bit| orders.contains(&(it ^ 1 << bit)));
+            let found = [
+                orders.contains(&0),
+                orders.contains(&u64::MAX),
+                orders.iter().filter(|it| **it < u64::MAX).any(carries),
+                orders.iter().any(differs_high),
+            ];
+            for (count, found) in counts.iter_mut().zip(found) {
+                *count += usize::from(found);
+            }
+        }
+        assert!(counts.iter().all(|it| (25..=80).contains(it)), "{counts:?}");
     }
 }

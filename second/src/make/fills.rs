@@ -1,6 +1,7 @@
 //! Calls that fill books and records to the last place, and one past it.
 
 use super::call_maker::Maker;
+use super::source::side_byte;
 use super::strays::stray;
 use crate::book::LIVE_ORDERS;
 use crate::record::KEPT_TRADES;
@@ -51,15 +52,10 @@ fn at_the_brim(maker: &mut Maker, index: u32) {
     let Some(order) = maker.source.live(index).get(place).copied() else {
         return;
     };
-    let side = super::source::side_byte(order.side);
     let mut bytes = Vec::new();
-    let replace = Body::Replace {
-        order: order.number,
-        new_order: maker.random().u64(),
-        price: maker.source.draw.price(side),
-        volume: maker.source.draw.volume(),
-        side,
-    };
+    let new_order = maker.random().u64();
+    let price = maker.source.draw.price(side_byte(order.side));
+    let replace = maker.source.replace_body(order, new_order, price);
     push_body(maker, index, replace, &mut bytes);
     if let Some(last) = maker.source.live(index).last().copied() {
         let order = last.number;

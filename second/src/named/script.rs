@@ -17,10 +17,13 @@ const ASK: u32 = 20_000;
 /// A feed shows its last quote alone: one of more messages is not worth its time.
 const LONGEST_FEED: usize = 100;
 
-/// The symbols before ABC where that is the eighth. The first and the last of them have full books.
+/// The symbols before ABC where that is the eighth. The first and the last of them have live orders.
 const BEFORE: [u32; SYMBOLS - 1] = [1, 2, 3, 4, 5, 6, 8];
 const FIRST: u32 = BEFORE[0];
 const SEVENTH: u32 = BEFORE[SYMBOLS - 2];
+
+/// Side and shares of the orders in those two.
+const NEIGHBOURS: [(u32, u8, u32); 2] = [(FIRST, BUY, 1), (SEVENTH, SELL, 2)];
 
 enum Call {
     Step(Message),
@@ -196,14 +199,15 @@ impl Cases {
                 calls.quote(ABC);
             }
         });
+        let orders = first_orders(&messages);
         self.calls(&format!("{name}-in-the-eighth-symbol"), |calls| {
-            push_neighbours(calls, &first_orders(&messages));
+            push_neighbours(calls, &orders);
             for call in &script.calls {
                 call.push_to(calls);
-                for index in [ABC, FIRST, SEVENTH] {
-                    calls.quote(index);
-                }
+                push_quotes(calls);
             }
+            find_neighbours(calls, &orders);
+            push_quotes(calls);
             for index in [ABC, FIRST, SEVENTH] {
                 calls.volume(index);
             }
@@ -218,10 +222,31 @@ fn push_neighbours(calls: &mut CallList, orders: &[u64]) {
         calls.register(index, 2, b"NEAR");
     }
     calls.register(ABC, 4, b"ABC");
-    for (index, side, volume) in [(FIRST, BUY, 1), (SEVENTH, SELL, 2)] {
-        let adds = (1..).zip(orders);
-        let adds = adds.map(|(number, order)| on(index, add(number, *order, side, 500, volume)));
-        calls.run_messages(&adds.collect::<Vec<_>>());
+    run_beside(calls, orders, 1, 500, add);
+}
+
+/// All of those orders are found: each gets another price.
+fn find_neighbours(calls: &mut CallList, orders: &[u64]) {
+    run_beside(calls, orders, orders.len() as u32 + 1, 600, modify);
+}
+
+/// A message of that number, order, side, price and volume.
+type Made = fn(u32, u64, u8, u32, u32) -> Message;
+
+/// A run in the first symbol and one in the seventh, each of a message for every order.
+fn run_beside(calls: &mut CallList, orders: &[u64], first: u32, price: u32, made: Made) {
+    for (index, side, volume) in NEIGHBOURS {
+        let messages: Vec<Message> = (first..)
+            .zip(orders)
+            .map(|(number, order)| on(index, made(number, *order, side, price, volume)))
+            .collect();
+        calls.run_messages(&messages);
+    }
+}
+
+fn push_quotes(calls: &mut CallList) {
+    for index in [ABC, FIRST, SEVENTH] {
+        calls.quote(index);
     }
 }
 
@@ -251,8 +276,8 @@ mod tests {
         lines[symbols..].to_vec()
     }
 
-    /// In the eighth symbol all is answered as in the only one, and the quotes of the neighbours
-    /// stay.
+    /// In the eighth symbol all is answered as in the only one. The quotes of the neighbours stay
+    /// until the end, and then all of their orders are found.
     #[test]
     fn the_eighth_symbol_is_like_an_only_one() {
         let cases = Cases::all();
@@ -266,14 +291,26 @@ mod tests {
             let only = probed(&cases, name, 1);
             let eighth = probed(&cases, &format!("{name}-in-the-eighth-symbol"), SYMBOLS);
             let calls = &only[..only.len() - 2];
-            let quoted = &eighth[2..eighth.len() - 3];
-            assert_eq!(2 * quoted.len(), 4 * calls.len(), "{name}");
+            // Two runs fill the neighbours; two find them, with three quotes, before three volumes.
+            let (quoted, found) = eighth[2..eighth.len() - 3].split_at(2 * calls.len());
+            assert_eq!(found.len(), 5, "{name}");
             for (alone, beside) in calls.chunks(2).zip(quoted.chunks(4)) {
                 assert_eq!(alone, &beside[..2], "{name}");
                 assert_eq!(beside[2..], quoted[2..4], "{name}");
             }
-            assert!(quoted[2].starts_with("Q,0,500,"), "{name}");
-            assert!(quoted[3].starts_with("Q,0,,,500,"), "{name}");
+            assert_eq!(found[2], only[only.len() - 2], "{name}");
+            for (before, after, start) in [
+                (&quoted[2], &found[3], "Q,0,"),
+                (&quoted[3], &found[4], "Q,0,,,"),
+            ] {
+                let shares = before.strip_prefix(&format!("{start}500,"));
+                assert!(shares.is_some(), "{name}");
+                assert_eq!(
+                    after.strip_prefix(&format!("{start}600,")),
+                    shares,
+                    "{name}"
+                );
+            }
             count += 1;
         }
         assert!(count > 0);

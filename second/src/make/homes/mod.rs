@@ -36,9 +36,9 @@ pub fn push_home(maker: &mut Maker) {
             maker.run_at(0, &bytes);
         }
         140..=187 => maker.list.quote(index),
-        188..=194 => maker.list.volume(index),
-        195 => clear_and_fill(maker, index),
-        196..=198 => {
+        188..=192 => maker.list.volume(index),
+        193 => clear_and_fill(maker, index),
+        194..=198 => {
             let body = misfit(maker, index);
             push_refused(maker, index, body);
         }
@@ -148,28 +148,16 @@ fn executed(maker: &mut Maker, live: Order, volume: u32) -> Body {
 }
 
 fn replaced(maker: &mut Maker, live: Order, new_order: u64) -> Body {
-    let side = side_byte(live.side);
-    Body::Replace {
-        order: live.number,
-        new_order,
-        price: maker.source.draw.price(side),
-        volume: maker.source.draw.volume(),
-        side,
-    }
+    let price = maker.source.draw.price(side_byte(live.side));
+    maker.source.replace_body(live, new_order, price)
 }
 
 fn modified(maker: &mut Maker, live: Order) -> Body {
-    let side = side_byte(live.side);
-    Body::Modify {
-        order: live.number,
-        price: maker.source.draw.price(side),
-        volume: maker.source.draw.volume(),
-        position: maker.source.draw.flag(),
-        side,
-    }
+    let price = maker.source.draw.price(side_byte(live.side));
+    maker.source.modify_body(live, price)
 }
 
-/// An add of a live order, a change of one that is not live, or a replace by a live one.
+/// An add of a live order, a change of one that is not live, or most often a replace by a live one.
 fn misfit(maker: &mut Maker, index: u32) -> Body {
     let unused = maker.source.unused_order(index);
     if maker.source.live(index).is_empty() {
@@ -180,12 +168,12 @@ fn misfit(maker: &mut Maker, index: u32) -> Body {
         number: unused,
         ..live
     };
-    match maker.random().below(8) {
-        0..=2 => added(maker, index, live.number),
-        3 => Body::Delete { order: unused },
-        4 => modified(maker, not_live),
-        5 => executed(maker, not_live, 1),
-        6 => replaced(maker, not_live, live.number),
+    match maker.random().below(16) {
+        0 | 1 => added(maker, index, live.number),
+        2 => Body::Delete { order: unused },
+        3 => modified(maker, not_live),
+        4 => executed(maker, not_live, 1),
+        5 => replaced(maker, not_live, live.number),
         _ => {
             let other = maker.source.live_order(index).number;
             let old = if other == live.number { not_live } else { live };

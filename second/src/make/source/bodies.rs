@@ -36,34 +36,43 @@ impl Source {
     /// A change of a live order.
     fn order_body(&mut self, index: u32) -> Body {
         let live = self.live_order(index);
-        let order = live.number;
-        let side = side_byte(live.side);
         let price = if self.draw.random.one_in(3) {
             live.price
         } else {
-            self.draw.price(side)
+            self.draw.price(side_byte(live.side))
         };
         match self.draw.random.below(9) {
-            0 | 1 => Body::Modify {
-                order,
-                price,
-                volume: self.draw.volume(),
-                position: self.draw.flag(),
-                side,
-            },
-            2 | 3 => Body::Delete { order },
-            4 | 5 => Body::Replace {
-                order,
-                new_order: if self.draw.random.one_in(4) {
-                    order
+            0 | 1 => self.modify_body(live, price),
+            2 | 3 => Body::Delete { order: live.number },
+            4 | 5 => {
+                let new_order = if self.draw.random.one_in(4) {
+                    live.number
                 } else {
                     self.unused_order(index)
-                },
-                price,
-                volume: self.draw.volume(),
-                side,
-            },
+                };
+                self.replace_body(live, new_order, price)
+            }
             _ => self.execute_body(live, price),
+        }
+    }
+
+    pub fn modify_body(&mut self, live: Order, price: u32) -> Body {
+        Body::Modify {
+            order: live.number,
+            price,
+            volume: self.draw.volume(),
+            position: self.draw.flag(),
+            side: side_byte(live.side),
+        }
+    }
+
+    pub fn replace_body(&mut self, live: Order, new_order: u64, price: u32) -> Body {
+        Body::Replace {
+            order: live.number,
+            new_order,
+            price,
+            volume: self.draw.volume(),
+            side: side_byte(live.side),
         }
     }
 

@@ -26,16 +26,16 @@ const TRIES: [(&str, Try); 6] = [
         script.add(last(live), SELL, 500);
     }),
     ("a-replace-of-the-first-by-the-last", |script, live| {
-        script.replace(live[0], last(live), 500);
+        replace_and_find(script, live[0], last(live));
     }),
     ("a-replace-of-the-first-by-itself", |script, live| {
-        script.replace(live[0], live[0], 500);
+        replace_and_find(script, live[0], live[0]);
     }),
     ("a-replace-of-the-first-by-an-unused-one", |script, live| {
-        script.replace(live[0], unused(FAMILY, 0), 500);
+        replace_and_find(script, live[0], unused(FAMILY, 0));
     }),
     ("a-replace-of-the-first-by-0", |script, live| {
-        script.replace(live[0], 0, 500);
+        replace_and_find(script, live[0], 0);
     }),
 ];
 
@@ -47,8 +47,8 @@ pub fn scripts() -> Vec<Named> {
                 script.fill(&roomful(FAMILY));
                 if let Some(place) = free {
                     script.delete(roomful(FAMILY)[place]);
-                    script.find_all();
                 }
+                script.find_all();
                 let live = script.live();
                 attempt(script, &live);
                 go_on(script, &live);
@@ -58,14 +58,20 @@ pub fn scripts() -> Vec<Named> {
     scripts
 }
 
+fn replace_and_find(script: &mut Script, old: u64, new: u64) {
+    script.replace(old, new, 500);
+    script.find(&[new]);
+}
+
 /// Two of the orders that were live are found, unless the symbol is stale. The first can be deleted
-/// unless it was replaced, and is added again.
+/// unless it was replaced, and is added again. After a clear all that were live come again.
 fn go_on(script: &mut Script, live: &[u64]) {
     script.find(&[live[LIVE_ORDERS / 2], last(live)]);
     script.delete(live[0]);
     script.add(live[0], SELL, 7);
     script.clear();
-    script.fill(&[live[0], last(live)]);
+    script.fill(live);
+    script.find_all();
 }
 
 fn last(live: &[u64]) -> u64 {

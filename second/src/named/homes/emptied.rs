@@ -8,6 +8,9 @@ use crate::named::script::Script;
 /// All orders that are left are found after one deletion in so many.
 type Rate = usize;
 
+/// After each deletion in a book of 64; of a larger book that file would be too long for the probe.
+const OFTEN: Rate = LIVE_ORDERS.div_ceil(64);
+
 pub fn scripts() -> Vec<Named> {
     let mut scripts: Vec<Named> = emptyings()
         .into_iter()
@@ -26,9 +29,9 @@ pub fn scripts() -> Vec<Named> {
 /// In which order the places of a full book are emptied.
 fn emptyings() -> [(&'static str, Vec<usize>, Rate); 5] {
     [
-        ("from-the-first-on", (0..LIVE_ORDERS).collect(), 1),
-        ("from-the-last-on", (0..LIVE_ORDERS).rev().collect(), 4),
-        ("from-the-middle-outwards", from_the_middle(), 2),
+        ("from-the-first-on", (0..LIVE_ORDERS).collect(), OFTEN),
+        ("from-the-last-on", (0..LIVE_ORDERS).rev().collect(), OFTEN),
+        ("from-the-middle-outwards", from_the_middle(), OFTEN),
         ("every-second-first", every_second(), 8),
         ("here-and-there", scattered(), 8),
     ]
@@ -53,11 +56,11 @@ pub fn scattered() -> Vec<usize> {
         .collect()
 }
 
-/// A family of no more members than a book has room for: one half is near the largest, and so is
-/// the other; the sum has 33 bits.
+/// Members of a family, as many as a book has room for: one half is near the largest, and so is the
+/// other; the sum has 33 bits.
 fn largest() -> Vec<u64> {
     let least = u32::MAX - (ROOM - 1);
-    let family = Family::of_sum(u64::from(least) + u64::from(u32::MAX));
+    let family = Family::of_sum(least.wrapping_add(u32::MAX));
     let below_the_largest = family.members(least..u32::MAX);
     [below_the_largest, vec![family.member(u32::MAX)]].concat()
 }
@@ -106,7 +109,7 @@ mod tests {
         assert_eq!(orders[0], 0xFFFF_FFC0_FFFF_FFFF);
         assert_eq!(orders[LIVE_ORDERS - 1], 0xFFFF_FFFF_FFFF_FFC0);
         for order in orders {
-            assert_eq!(Family::of_order(order), Family::of_sum(0x1_FFFF_FFBF));
+            assert_eq!(Family::of_order(order), Family::of_sum(0xFFFF_FFBF));
         }
     }
 }

@@ -7,27 +7,33 @@ use crate::make::families::Family;
 use crate::make::messages::{BUY, SELL};
 use crate::named::script::Script;
 
+/// Sums that lie close, and some more whose homes are neighbours or the same where homes are spread
+/// by the golden ratio.
+const OTHERS: [(&str, Family); 5] = [
+    ("next-sums", NEXT_FAMILY),
+    ("sums-34-apart", Family::of_sum(1_034)),
+    ("sums-63-apart", Family::of_sum(1_063)),
+    ("sums-64-apart", Family::of_sum(1_064)),
+    ("sums-89-apart", Family::of_sum(1_089)),
+];
+
 pub fn scripts() -> Vec<Named> {
-    // The homes may be neighbours, neighbours across the end, or the same.
-    [
-        ("next-sums", NEXT_FAMILY),
-        ("sums-63-apart", Family::of_sum(1_063)),
-        ("sums-64-apart", Family::of_sum(1_064)),
-    ]
-    .into_iter()
-    .map(|(name, other)| {
-        named(&format!("two-families-of-{name}"), |script| {
-            fill_and_empty(script, &by_turns(FAMILY, other));
+    OTHERS
+        .into_iter()
+        .map(|(sums, other)| {
+            named(&format!("two-families-of-{sums}"), |script| {
+                fill_and_empty(script, &by_turns(FAMILY, other));
+            })
         })
-    })
-    .chain([
-        named("two-families-whose-sums-differ-by-a-carry", |script| {
-            fill_and_empty(script, &across_the_carry());
-        }),
-        named("two-families-one-after-the-other", one_after_the_other),
-        named("every-home-in-turn", every_home),
-    ])
-    .collect()
+        .chain([
+            named("a-family-with-and-without-a-carry", |script| {
+                fill_and_empty(script, &across_the_carry());
+            }),
+            named("two-families-one-after-the-other", one_after_the_other),
+            named("every-home-in-turn", every_home),
+        ])
+        .chain(replaced_by_a_live_one())
+        .collect()
 }
 
 /// The members of two families by turns, as many as a book has room for.
@@ -37,11 +43,10 @@ fn by_turns(one: Family, other: Family) -> Vec<u64> {
         .collect()
 }
 
-/// Sums that are equal in their low 32 bits: one home where the carry is lost.
+/// Members of one family whose sums have 32 bits and 33 by turns: one home where the carry is lost.
 fn across_the_carry() -> Vec<u64> {
-    let carried = Family::of_sum((1 << 32) + 1_000);
     (1..=ROOM / 2)
-        .flat_map(|high| [FAMILY.member(high), carried.member(2_000 + high)])
+        .flat_map(|high| [FAMILY.member(high), FAMILY.member(2_000 + high)])
         .collect()
 }
 
@@ -87,11 +92,12 @@ fn one_after_the_other(script: &mut Script) {
     miss(script, other[0]);
 }
 
-/// Four members of each of as many families as a symbol has places: one of the homes is the last
-/// place, and a search from it goes on at the first.
+/// Four members of each of twice as many families as a symbol has places. So many sums that follow
+/// each other reach every place where homes are spread: also the last one, and a search from it goes
+/// on at the first.
 fn every_home(script: &mut Script) {
-    for sum in 0..u64::from(ROOM) {
-        let members = Family::of_sum(2_000 + sum).members(1..5);
+    for sum in 2_000..2_000 + 2 * ROOM {
+        let members = Family::of_sum(sum).members(1..5);
         script.fill(&members);
         script.delete(members[1]);
         script.find_all();
@@ -101,4 +107,33 @@ fn every_home(script: &mut Script) {
         script.empty(&[members[3], members[1], members[2]]);
     }
     miss(script, Family::of_sum(2_000).member(1));
+}
+
+/// The first order is of one family, the last of the other. The new number of a replace is looked
+/// for from its own home, and found.
+fn replaced_by_a_live_one() -> Vec<Named> {
+    let mut scripts = Vec::new();
+    for (sums, other) in &OTHERS[..2] {
+        let orders = by_turns(FAMILY, *other);
+        let [first, last] = [orders[0], orders[LIVE_ORDERS - 1]];
+        let middle = &orders[LIVE_ORDERS / 2..][..1];
+        for (book, leaving) in [("full", &[][..]), ("less-one", middle)] {
+            for (replace, old, new) in [
+                ("the-first-by-the-last", first, last),
+                ("the-last-by-the-first", last, first),
+            ] {
+                let name = format!("two-families-of-{sums}-{book}-and-a-replace-of-{replace}");
+                scripts.push(named(&name, |script| {
+                    script.fill(&orders);
+                    script.empty(leaving);
+                    script.find_all();
+                    script.replace(old, new, 500);
+                    script.clear();
+                    script.fill(&orders);
+                    script.find_all();
+                }));
+            }
+        }
+    }
+    scripts
 }

@@ -3,6 +3,7 @@
 use super::emptied::{every_second, scattered};
 use super::{miss, named, roomful, Named, FAMILY, ROOM};
 use crate::book::LIVE_ORDERS;
+use crate::make::families::Family;
 use crate::make::messages::{BUY, SELL};
 use crate::named::script::Script;
 
@@ -10,22 +11,24 @@ use crate::named::script::Script;
 const EDGES: [u64; 4] = [0, 1, 1 << 32, u64::MAX];
 
 /// Places of the four, none of them first twice.
-const ORDERS: [[usize; 4]; 4] = [[0, 1, 2, 3], [3, 2, 1, 0], [1, 3, 0, 2], [2, 0, 3, 1]];
+const TURNS: [[usize; 4]; 4] = [[0, 1, 2, 3], [3, 2, 1, 0], [1, 3, 0, 2], [2, 0, 3, 1]];
 
 pub fn scripts() -> Vec<Named> {
     let mut scripts = Vec::new();
     for (name, end) in ENDS {
         scripts.push(named(&format!("orders-at-the-edges-{name}"), |script| {
-            for coming in ORDERS {
-                for going in ORDERS {
+            for coming in TURNS {
+                for going in TURNS {
                     come_and_go(script, coming, going, end);
                 }
             }
+            come_and_stay(script);
         }));
     }
     scripts.push(named("orders-at-the-edges-once", |script| {
-        come_and_go(script, ORDERS[0], ORDERS[2], Script::delete);
-        come_and_go(script, ORDERS[3], ORDERS[1], Script::execute_all);
+        come_and_go(script, TURNS[0], TURNS[2], Script::delete);
+        come_and_go(script, TURNS[3], TURNS[1], Script::execute_all);
+        come_and_stay(script);
     }));
     scripts.push(named(
         "orders-at-the-edges-in-a-full-family",
@@ -35,12 +38,15 @@ pub fn scripts() -> Vec<Named> {
         scripts.push(named(&format!("{name}-in-an-empty-book"), |script| {
             refused(script, change);
         }));
-        scripts.push(named(&format!("{name}-after-it-went"), |script| {
-            script.fill(&EDGES);
-            script.empty(&EDGES);
-            refused(script, change);
-        }));
+        for (state, first) in [("after-it-went", 0), ("after-another-went", 1)] {
+            scripts.push(named(&format!("{name}-{state}"), |script| {
+                script.fill(&FAMILY_OF_0.members(first..4));
+                script.delete(FAMILY_OF_0.member(first));
+                refused(script, change);
+            }));
+        }
     }
+    scripts.push(named("an-add-of-order-0-after-another-went", add_of_0));
     for (name, number) in ROWS {
         scripts.push(named(name, |script| two_rows(script, number)));
     }
@@ -73,6 +79,14 @@ fn come_and_go(script: &mut Script, coming: [usize; 4], going: [usize; 4], end: 
     }
 }
 
+/// The four come once more, and two of them go.
+fn come_and_stay(script: &mut Script) {
+    script.fill(&EDGES);
+    script.find_all();
+    script.empty(&EDGES[1..3]);
+    script.find_all();
+}
+
 /// The four take the places of others of the family, and those come back.
 fn edges_in_a_full_book(script: &mut Script) {
     let family = roomful(FAMILY);
@@ -89,6 +103,10 @@ fn edges_in_a_full_book(script: &mut Script) {
     script.find_all();
     miss(script, 0);
 }
+
+/// The family that order 0 is a member of. When one of its others went, a search for 0 goes past an
+/// empty place.
+const FAMILY_OF_0: Family = Family::of_sum(0);
 
 /// A change of order 0 where it is not live: an empty place must not be taken for it.
 type Change = fn(&mut Script);
@@ -108,13 +126,27 @@ fn refused(script: &mut Script, change: Change) {
     script.modify(0, 30);
 }
 
+/// Order 0 is not live before, and then it is.
+fn add_of_0(script: &mut Script) {
+    script.fill(&FAMILY_OF_0.members(1..4));
+    script.delete(FAMILY_OF_0.member(1));
+    script.add(0, SELL, 10);
+    script.modify(0, 20);
+    script.find_all();
+    script.delete(0);
+    script.find_all();
+    miss(script, 0);
+}
+
 /// The numbers of a row, by their count from 1 on.
 type Row = fn(u64) -> u64;
 
 const ROWS: [(&str, Row); 5] = [
     ("consecutive-numbers", |count| count),
-    ("multiples-of-64", |count| 64 * count),
-    ("multiples-of-512", |count| 512 * count),
+    ("multiples-of-the-room", |count| u64::from(ROOM) * count),
+    ("multiples-of-eight-rooms", |count| {
+        8 * u64::from(ROOM) * count
+    }),
     ("numbers-of-other-high-halves", |count| (count << 32) | 5),
     ("consecutive-numbers-to-the-last", |count| {
         u64::MAX - 2 * u64::from(ROOM) + count
