@@ -4,6 +4,8 @@ use mathlib.Core.Option.{Option, none}
 use mathlib.Core.Path.{_≡_, refl, ap}
 use Prim.Native.Nat.{ℕ}
 use lib.ListN.{getD}
+use Rattle.markets.specs.Numbers.{marketNumber}
+use Rattle.markets.proofs.Names.{market-kept}
 use Rattle.markets.specs.declared.Market.{Market}
 use Rattle.places.specs.Places.{symbols, tabulate, firstWhere}
 use Rattle.symbols.specs.State.{Entry, placeOf, foundIn, nobody}
@@ -19,11 +21,11 @@ use Rattle.book.specs.declared.Book.{Book}
 use Rattle.book.proofs.Views.{seen}
 
 abbrev new : Market → Book
-new m = record { symbols = nobody; orders = noOrders; trades = noTrades; market = m }
+new m = record { symbols = nobody; orders = noOrders; trades = noTrades; market = marketNumber m }
 
 nothing-seen : (m : Market) → view (new m) ≡ newView m
 unfolding view tabulate
-nothing-seen m = ap (λ (l : List (Option Entry)). record { market = m; places = tabulate symbols (λ k. seen (getD l k none) (liveAt noOrders k) (keptAt noTrades k)) }) nobody-there
+nothing-seen m = λ i. record { market = market-kept m i; places = tabulate symbols (λ k. seen (getD (nobody-there i) k none) (liveAt noOrders k) (keptAt noTrades k)) }
 
 pub fresh : (m : Market) → Fresh m (new m)
 fresh m = record {

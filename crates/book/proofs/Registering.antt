@@ -9,6 +9,7 @@ use borrow.Author.Tests.{ltb-true}
 use lib.Dec.{ltb}
 use lib.ListN.{getD, set}
 use lib.Seq.{getD-set-same, getD-set-other}
+use Rattle.markets.specs.Numbers.{marketOf}
 use Rattle.places.specs.Places.{symbols, among, tabulate}
 use Rattle.places.proofs.Searching.{first-passes}
 use Rattle.symbols.specs.State.{Entry, entries, itself, isVacant, placeOf, vacancyOf}
@@ -36,7 +37,7 @@ module _ (b : Book) (index : ℕ) (name : List ℕ) (scale : ℕ) (r : Entered) 
 
   same-view : entries (r .symbols) ≡ es → view (with b r) ≡ view b
   unfolding view
-  same-view n = ap (λ (l : List (Option Entry)). record { market = b .market; places = tabulate symbols (λ k. seen (getD l k none) (ordersAt b k) (tradesAt b k)) }) n
+  same-view n = ap (λ (l : List (Option Entry)). record { market = marketOf (b .market); places = tabulate symbols (λ k. seen (getD l k none) (ordersAt b k) (tradesAt b k)) }) n
 
   module _ (w : Wf b) where
     stays : (a : ℕ) → entries (r .symbols) ≡ es → r .answer ≡ a → Obeys (record { view = view b; answer = a }) (with b r) (r .answer)

@@ -7,6 +7,7 @@ use Prim.Native.Nat.{ℕ, _<_, _≤_}
 use borrow.Author.Tests.{eqb-true, eqb-false}
 use lib.Dec.{eqb}
 use lib.ListN.{length, getD, set}
+use Rattle.markets.specs.Numbers.{marketOf}
 use Rattle.places.specs.Places.{symbols}
 use Rattle.places.proofs.Tables.{length-tabulate, getD-tabulate, tabulate-but-one, first-alike}
 use Rattle.places.proofs.Searching.{first-passes}
@@ -28,12 +29,12 @@ abbrev pub seen : Option Entry → List Order → List Trade → Option Symbol
 seen x os ts = Option·map (λ e. symbolOf e os ts) x
 
 -- ---- the market is the state's own
-pub view-market : (b : Book) → view b .market ≡ b .market
+pub view-market : (b : Book) → view b .market ≡ marketOf (b .market)
 unfolding view
 view-market b = refl
 
 pub same-market : (b r : Book) → r .market ≡ b .market → view r .market ≡ view b .market
-same-market b r e = view-market r ∙ e ∙ sym (view-market b)
+same-market b r e = view-market r ∙ ap marketOf e ∙ sym (view-market b)
 
 -- ---- what stands at a place
 pub length-view : (b : Book) → length (view b .places) ≡ symbols
@@ -100,7 +101,7 @@ pub record SoundRooms (r : Book) : Type 0 where
 module _ (b r : Book) (k : ℕ) (in-range : k < symbols) (apart : ButAt k b r) where
   view-but-one : view r ≡ withPlaces (view b) (set (view b .places) k (seen (entryAt r k) (ordersAt r k) (tradesAt r k)))
   unfolding view
-  view-but-one = λ i. record { market = apart .market i; places = same-but-one i }
+  view-but-one = λ i. record { market = marketOf (apart .market i); places = same-but-one i }
     where
       same-but-one : view r .places ≡ set (view b .places) k (seen (entryAt r k) (ordersAt r k) (tradesAt r k))
       same-but-one = tabulate-but-one symbols _ _ k in-range (λ m h ne. rw (apart .entries m ne, apart .orders m ne, apart .trades m ne))

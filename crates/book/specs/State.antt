@@ -4,6 +4,7 @@ use mathlib.Core.Option.{Option, none, some, Option·map}
 use mathlib.Core.Path.{_≡_}
 use Prim.Native.Nat.{ℕ, _<_}
 use lib.ListN.{getD, replicate}
+use Rattle.markets.specs.Numbers.{marketNumber, marketOf}
 use Rattle.markets.specs.declared.Market.{Market}
 use Rattle.places.specs.Places.{symbols, tabulate}
 use Rattle.symbols.specs.State as symbols-room
@@ -49,7 +50,7 @@ abbrev pub symbolOf : Entry → List Order → List Trade → Symbol
 symbolOf e os ts = record { entry = e; orders = os; trades = ts }
 
 unfoldable pub view : Book → View
-view b = record { market = b .market; places = tabulate symbols (λ k. Option·map (λ e. symbolOf e (ordersAt b k) (tradesAt b k)) (entryAt b k)) }
+view b = record { market = marketOf (b .market); places = tabulate symbols (λ k. Option·map (λ e. symbolOf e (ordersAt b k) (tradesAt b k)) (entryAt b k)) }
 
 -- ---- the symbol with an index, and where it stands
 abbrev pub entryOf : Symbol → Entry
@@ -82,7 +83,7 @@ abbrev pub newView : Market → View
 newView m = record { market = m; places = replicate symbols none }
 
 pub record Fresh (m : Market) (r : Book) : Type 0 where
-  pub market : r .market ≡ m
+  pub market : r .market ≡ marketNumber m
   pub names : r .symbols ≡ nobody
   pub orders : r .orders ≡ noOrders
   pub trades : r .trades ≡ noTrades

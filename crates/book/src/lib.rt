@@ -20,15 +20,17 @@ pub use walk::Ran;
 ghost use mathlib.Core.Path.{_≡_};
 ghost use Rattle.book.specs.State.{view, Fresh};
 
-// The state.
+// The state. The market is kept as its Market ID, since no enum goes out to a host.
+#[repr(C)]
 pub struct Book {
     symbols: Symbols,
     orders: Orders,
     trades: Record,
-    market: Market,
+    market: u16,
 }
 
 // The next state, and document 01's number.
+#[repr(C)]
 pub struct Done {
     pub book: Book,
     pub answer: u8,
@@ -46,7 +48,7 @@ impl Book {
             symbols,
             orders,
             trades,
-            market,
+            market: markets::number_of(market),
         }
     }
 
@@ -54,6 +56,6 @@ impl Book {
     pub fn market(self) -> Market
         ensures { λ r. ⌜ r ≡ view self .market ⌝ }
     {
-        self.market
+        markets::market_of(self.market)
     }
 }

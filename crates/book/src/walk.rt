@@ -43,7 +43,7 @@ impl Book {
             },
             Reach::Size(size) => {
                 let end = at + size;
-                let market = self.market;
+                let market = markets::market_of(self.market);
                 let d = wire::decode(market, &s[at..end]);
                 let r = self.step(d);
                 let next = r.book;

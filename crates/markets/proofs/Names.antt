@@ -7,7 +7,7 @@ use Prim.Native.Nat.{ℕ}
 use native.Mathlib.Omega.{arith}
 use lib.Dec.{eqb}
 use borrow.Author.Tests.{eqb-true, ne-eqb}
-use Rattle.markets.specs.Numbers.{marketNumber, everyMarket, namedAmong, namedOf}
+use Rattle.markets.specs.Numbers.{marketNumber, everyMarket, namedAmong, namedOf, marketIn, marketOf}
 use Rattle.markets.specs.declared.Market.{Market}
 use Rattle.markets.specs.declared.Market.the-variants.{Nyse, Arca, American, National, Texas}
 use Rattle.markets.specs.declared.Named.{Named}
@@ -46,3 +46,8 @@ every-name = record { nyse = refl; arca = refl; american = refl; national = refl
 pub unnamed : (n : ℕ) → n ≢ 1 → n ≢ 3 → n ≢ 9 → n ≢ 10 → n ≢ 11 → namedOf n ≡ Named.Unknown
 unfolding namedOf
 unnamed n nyse arca american national texas = simp (ne-eqb n 1 nyse, ne-eqb n 3 arca, ne-eqb n 9 american, ne-eqb n 10 national, ne-eqb n 11 texas)
+
+-- a market that is kept as its number is that market
+pub market-kept : (market : Market) → marketOf (marketNumber market) ≡ market
+unfolding marketOf
+market-kept market = ap marketIn (named-again market)

@@ -1,6 +1,6 @@
 -- The markets and their numbers.
 use Prim.Native.Nat.{ℕ}
-use mathlib.Core.Bool.{cond}
+use mathlib.Core.Bool.{Bool, true, false, cond}
 use mathlib.Core.List.{List, [], _∷_}
 use lib.Dec.{eqb}
 use Rattle.markets.specs.declared.Market.{Market}
@@ -25,3 +25,16 @@ namedAmong (market ∷ markets) n = cond (eqb n (marketNumber market)) (Named.Ma
 
 unfoldable pub namedOf : ℕ → Named
 namedOf n = namedAmong everyMarket n
+
+-- whether a number names one
+abbrev pub isNamed : Named → Bool
+isNamed (Named.Market m) = true
+isNamed Named.Unknown = false
+
+-- the market that is kept as a number. A number that names none would stand for NYSE
+abbrev pub marketIn : Named → Market
+marketIn (Named.Market m) = m
+marketIn Named.Unknown = Nyse
+
+unfoldable pub marketOf : ℕ → Market
+marketOf n = marketIn (namedOf n)

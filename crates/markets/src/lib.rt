@@ -3,7 +3,7 @@ mod conditions;
 
 pub use conditions::condition_listed;
 ghost use mathlib.Core.Path.{_≡_};
-ghost use Rattle.markets.specs.Numbers.{namedOf};
+ghost use Rattle.markets.specs.Numbers.{marketNumber, namedOf, marketOf};
 
 pub enum Market {
     Nyse,
@@ -30,5 +30,29 @@ pub fn market_named(number: u16) -> Named
         10 => Named::Market(Market::National),
         11 => Named::Market(Market::Texas),
         _ => Named::Unknown,
+    }
+}
+
+// The market that is kept as a number: that of its Market ID, and NYSE with any other number.
+pub fn market_of(number: u16) -> Market
+    ensures { λ r. ⌜ r ≡ marketOf number ⌝ }
+{
+    let named = market_named(number);
+    match named {
+        Named::Market(market) => market,
+        Named::Unknown => Market::Nyse,
+    }
+}
+
+// The Market ID, by which a market is kept.
+pub fn number_of(market: Market) -> u16
+    ensures { λ r. ⌜ r ≡ marketNumber market ⌝ }
+{
+    match market {
+        Market::Nyse => 1,
+        Market::Arca => 3,
+        Market::American => 9,
+        Market::National => 10,
+        Market::Texas => 11,
     }
 }

@@ -23,6 +23,7 @@ const EACH: u16 = ORDERS as u16;
 const PLACES: usize = SYMBOLS * ORDERS;
 
 // A place for an order: empty, or a live one.
+#[repr(C)]
 pub struct Order {
     live: bool,
     buy: bool,
@@ -32,6 +33,7 @@ pub struct Order {
 }
 
 // The orders, and what searches read of them: their numbers, whether each is live, and, for each home of each symbol, how many places from it on may hold an order of it.
+#[repr(C)]
 pub struct Orders {
     places: [Order; PLACES],
     numbers: [u64; PLACES],

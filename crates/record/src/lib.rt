@@ -17,6 +17,7 @@ const TRADES: usize = 128;
 const PLACES: usize = SYMBOLS * TRADES;
 
 // A place for a trade: empty, or a kept one.
+#[repr(C)]
 pub struct Trade {
     live: bool,
     number: u32,
@@ -24,6 +25,7 @@ pub struct Trade {
     volume: u32,
 }
 
+#[repr(C)]
 pub struct Record {
     places: [Trade; PLACES],
 }

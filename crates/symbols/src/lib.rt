@@ -15,6 +15,7 @@ ghost use Rattle.symbols.specs.State.{noSymbol, nobody};
 pub const NAME: usize = 11;
 
 // Where a symbol stands: the number that it expects, whether it is refused until a clear, and whether its record is whole.
+#[repr(C)]
 pub struct Standing {
     pub expected: u64,
     pub stale: bool,
@@ -22,6 +23,7 @@ pub struct Standing {
 }
 
 // A place of registration: empty, or a symbol's. The name is padded with zeros.
+#[repr(C)]
 pub struct Place {
     used: bool,
     index: u32,
@@ -31,6 +33,7 @@ pub struct Place {
     standing: Standing,
 }
 
+#[repr(C)]
 pub struct Symbols {
     places: [Place; SYMBOLS],
 }

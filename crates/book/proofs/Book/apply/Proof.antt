@@ -42,7 +42,10 @@ part-decode-start : tie.Need-part-decode-start
 part-decode-start c = search needs
 
 part-decode-end : tie.Need-part-decode-end
-part-decode-end c = within c
+part-decode-end c = within (c .before)
+
+market-of-requires : tie.Need-market-of-requires
+market-of-requires c κs = search needs
 
 decode-requires : tie.Need-decode-requires
 decode-requires c κs = search needs
@@ -58,12 +61,12 @@ returns-2 c = move-stops _ _ _ 2 (sym (c .before .before .reach-at .ensures) ∙
 
 returns-3 : tie.Need-returns-3
 returns-3 c =
-    let k = c .before .before .before .before in
+    let k = c .before .before .before .before .before in
     let a = k .before .before .before .before .before .args in
     let s = now (a .s) in
     let n = k .before .reach .given .0 .0 in
     move-goes (a .self) s (a .at) n (reaches k) (c .before .before .decode .result) _
-    (c .before .before .decode .ensures .0 ∙ (λ i. readOf (sym (view-market (a .self)) i) (take (add-sub-cancel-left (a .at) n i) (drop (a .at) s))))
+    (c .before .before .decode .ensures .0 ∙ (λ i. readOf ((c .before .before .before .before .market-of .ensures ∙ sym (view-market (a .self))) i) (take (add-sub-cancel-left (a .at) n i) (drop (a .at) s))))
     (c .before .step .ensures .0)
     (c .before .step .ensures .1)
 
@@ -76,6 +79,7 @@ apply-spec =
     enum-told-2
     enum-known-reach
     add-end
+    market-of-requires
     sub-decode
     part-decode-start
     part-decode-end
