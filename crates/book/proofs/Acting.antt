@@ -114,6 +114,9 @@ pub record Asked (b : Book) (index n k t : ℕ) : Type 0 where
   pub place : k ≡ placeOf itself index (entries (b .symbols))
   pub turn : t ≡ turnAt (entryAt b k) n
 
+pub act-nobody : (b : Book) (index n : ℕ) (e : Effect) (k : ℕ) → k ≡ placeOf itself index (entries (b .symbols)) → symbols ≤ k → actOn (view b) (numbered index n e) ≡ refusing (view b) 5
+act-nobody b index n e k place h = act-missing b (numbered index n e) (rw (place ∙ place-is b index) at h)
+
 module _ (b : Book) (index n : ℕ) (e : Effect) (k t : ℕ) (asked : Asked b index n k t) where
   is : k ≡ placeIn index (view b)
   is = asked .place ∙ place-is b index
@@ -164,10 +167,10 @@ module _ (b : Book) (index n : ℕ) (e : Effect) (k t : ℕ) (asked : Asked b in
       changes b _ _ r (meet-stale h z) (same-market b (r .book) (s .market)) (ap unchanging (s .answer)) (λ w. rw (s .answer) (stales b k h (at-k h .entry) (at-k h .at) w 7 r s))
 
   -- 5, 6, 8: nothing changes
-  pub meeting-away : t ≢ 7 → t ≢ 0 → Steps b (actOn (view b) (numbered index n e)) (record { book = b; answer = t })
-  meeting-away p q = refuses b _ t (by-place k
+  pub meeting-away : t ≢ 7 → t ≢ 0 → actOn (view b) (numbered index n e) ≡ refusing (view b) t
+  meeting-away p q = by-place k
       (λ h. meet-refused h p q)
-      (λ h. act-missing b (numbered index n e) (rw is at h) ∙ ap (refusing (view b)) (sym (past h))))
+      (λ h. act-missing b (numbered index n e) (rw is at h) ∙ ap (refusing (view b)) (sym (past h)))
 
   -- in its turn it is taken
   module _ (z : t ≡ 0) where

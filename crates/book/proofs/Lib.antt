@@ -15,3 +15,4 @@ pub mod Answers
 pub mod Positions
 pub mod Reaching
 pub mod Streams
+pub mod Planning

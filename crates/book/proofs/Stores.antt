@@ -104,32 +104,39 @@ fit-fits misfit e = absurd (omega (arith, e))
 fit-fits no-room e = absurd (omega (arith, e))
 
 -- ---- so the message is applied, or its symbol becomes stale
-module _ (b : Book) (k : ℕ) (c : Change) (d : Deal) (t : Awaits b k) (x : Changed) (p : changing.Changes (b .orders) k c x) where
+module _ (b : Book) (k : ℕ) (c : Change) (d : Deal) (t : Awaits b k) where
   expects : (e : Entry) → entryAt b k ≡ some e → e .standing .expected < numbers
   expects e at = let same : t .entry ≡ e = (let z : _≡_ {A = Option Entry} (some (t .entry)) (some e) = sym (t .there) ∙ at in cc) in rw (sym same) (t .expected)
 
-  -- the number of the fit is the one that the rule gives
-  by-rule : Wf b → fitNumber (x .fit) ≡ fitNumber (fitOf (applyTo (ordersAt b k) c))
-  by-rule w = ap fitNumber (p .obeys (t .place) (w .orders) .fit)
-
-  pub enacts-refused : (a : ℕ) → a ≡ fitNumber (x .fit) → a ≢ 0 → (r : Done) → MakesStale b k a r → Enacts b k c d r
-  unfolding enacted
-  enacts-refused a is ne r s = record {
-    market = same-market b (r .book) (s .market);
-    changes = ap unchanging (s .answer ∙ is) ∙ changes-something (x .fit);
-    obeys = λ e at w.
-        let same : a ≡ fitNumber (fitOf (applyTo (ordersAt b k) c)) = is ∙ by-rule w in
-        rw (s .answer, refused-fit (applyTo (ordersAt b k) c) (λ z. ne (same ∙ z)), ← same) (stales b k (t .place) e at w a r s);
-  }
-
-  pub enacts-fitting : fitNumber (x .fit) ≡ 0 → (y : Dealt) → dealing.Deals (b .trades) k d y → (s : Symbols) → Alters (b .symbols) k (countedIf (y .lost)) s
+  -- orders that fit, a record dealt with and a number counted, each as its room's rule says
+  pub enacts-done : (x : Changed) → fitNumber (x .fit) ≡ 0 → (y : Dealt) (s : Symbols)
+      → (Wf b → changing.Obeys (b .orders) k (applyTo (ordersAt b k) c) x) → (Wf b → dealing.Obeys (b .trades) k (dealTo (tradesAt b k) d) y) → (Wf b → Alters (b .symbols) k (countedIf (y .lost)) s)
       → Enacts b k c d (record { book = record { symbols = s; orders = x .orders; trades = y .trades; market = b .market }; answer = 0 })
   unfolding among
-  enacts-fitting f y q s a = record {
+  enacts-done x f y s p q a = record {
     market = same-market b _ refl;
     changes = refl;
     obeys = λ e at w.
-        let o = p .obeys (t .place) (w .orders) in
-        let g = fit-fits (applyTo (ordersAt b k) c) (sym (by-rule w) ∙ f) in
-        rw (g .fit) (applies b k (t .place) e at w x (g .after) (rw (g .fit) at o) d y (q .obeys (t .place) (w .trades)) (expects e at) s a);
+        let o = p w in
+        let g = fit-fits (applyTo (ordersAt b k) c) (sym (ap fitNumber (o .fit)) ∙ f) in
+        rw (g .fit) (applies b k (t .place) e at w x (g .after) (rw (g .fit) at o) d y (q w) (expects e at) s (a w));
   }
+
+  module _ (x : Changed) (p : changing.Changes (b .orders) k c x) where
+    -- the number of the fit is the one that the rule gives
+    by-rule : Wf b → fitNumber (x .fit) ≡ fitNumber (fitOf (applyTo (ordersAt b k) c))
+    by-rule w = ap fitNumber (p .obeys (t .place) (w .orders) .fit)
+
+    pub enacts-refused : (a : ℕ) → a ≡ fitNumber (x .fit) → a ≢ 0 → (r : Done) → MakesStale b k a r → Enacts b k c d r
+    unfolding enacted
+    enacts-refused a is ne r s = record {
+      market = same-market b (r .book) (s .market);
+      changes = ap unchanging (s .answer ∙ is) ∙ changes-something (x .fit);
+      obeys = λ e at w.
+          let same : a ≡ fitNumber (fitOf (applyTo (ordersAt b k) c)) = is ∙ by-rule w in
+          rw (s .answer, refused-fit (applyTo (ordersAt b k) c) (λ z. ne (same ∙ z)), ← same) (stales b k (t .place) e at w a r s);
+    }
+
+    pub enacts-fitting : fitNumber (x .fit) ≡ 0 → (y : Dealt) → dealing.Deals (b .trades) k d y → (s : Symbols) → Alters (b .symbols) k (countedIf (y .lost)) s
+        → Enacts b k c d (record { book = record { symbols = s; orders = x .orders; trades = y .trades; market = b .market }; answer = 0 })
+    enacts-fitting f y q s a = enacts-done x f y s (λ w. p .obeys (t .place) (w .orders)) (λ w. q .obeys (t .place) (w .trades)) (λ w. a)

@@ -14,9 +14,13 @@ use Rattle.book.specs.State.{View, view, Wf}
 use Rattle.book.specs.Step.{stepOf, stepIn}
 use Rattle.book.specs.Promises.{Steps}
 use Rattle.book.specs.Walk.{landing, stopping, offsetBy, moveOf, walkFor, walkOf, stepsOf, runOf, Moves, Runs}
+use Rattle.markets.specs.Numbers.{marketOf}
+use Rattle.markets.specs.declared.Market.{Market}
 use Rattle.book.specs.declared.Book.{Book}
+use Rattle.book.specs.declared.Done.{Done}
 use Rattle.book.specs.declared.step.Stepped.{Stepped}
 use Rattle.book.specs.declared.walk.Moved.{Moved}
+use Rattle.book.proofs.Views.{view-market}
 
 -- ---- one message
 pub move-within : (s : List ℕ) (at n : ℕ) → reachOf (drop at s) ≡ done n → at + n ≤ length s
@@ -141,3 +145,17 @@ module _ (c : Book) (s : List ℕ) (at : ℕ) (r : Moved) (m : Moves c s at r) w
               kept = λ z. ap (λ (x : Moved). x .book) (m .stopped t) ∙ l .still (sym to ∙ z);
               obeys = λ w. record { wf = m .obeys (l .sound w) .wf; next-view = m .obeys (l .sound w) .next-view ∙ (rw e (rw e at (v w))); answer = number ∙ (rw e at q) };
             }
+
+-- ---- a turn of the run: what reaches from here stops it, or is done and the walk goes on
+module _ (s : List ℕ) (from : ℕ) (b : Book) (at : ℕ) (c : Book) (l : Left s from b at c) where
+  pub turn-stops : (a : ℕ) → reachOf (drop at s) ≡ refused a → Runs b s from (record { book = c; at = at; answer = a })
+  turn-stops a e = left-end c s at _ (move-stops c s at a e) from b refl l
+
+  module _ (n : ℕ) (e : reachOf (drop at s) ≡ done n) where
+    pub turn-less : length s - (at + n) < length s - at
+    turn-less = omega (arith, move-within s at n e, reached (drop at s) n e .least)
+
+    pub turn-on : (d : Decoded) (market : Market) → market ≡ marketOf (b .market) → decodedAs d ≡ readOf market (take (at + n - at) (drop at s)) → (r : Done) → Steps c (stepOf (view c) (decodedAs d)) r → Left s from b (at + n) (r .book)
+    turn-on d market is q r p =
+        let read = q ∙ (λ i. readOf ((is ∙ sym (view-market b) ∙ sym (l .same-market)) i) (take (add-sub-cancel-left at n i) (drop at s))) in
+        left-on c s at _ (move-goes c s at n e d (record { book = r .book; answer = r .answer; offset = decodedAs d .offset }) read p refl) from b refl l

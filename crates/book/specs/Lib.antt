@@ -5,3 +5,4 @@ pub mod Step
 pub mod Walk
 pub mod Promises
 pub mod Reached
+pub mod Planning

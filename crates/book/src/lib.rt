@@ -3,7 +3,9 @@
 // A state is taken by value and the next one is handed back. Its fields are private: nobody outside puts one together by hand.
 mod acts;
 mod effects;
+mod hearing;
 mod naming;
+mod plans;
 mod quote;
 mod step;
 mod store;

@@ -1,6 +1,28 @@
 // The walk over a stream of messages laid end to end.
 use crate::Book;
+use crate::hearing::change_in;
+use crate::hearing::deal_in;
+use crate::hearing::due_of;
+use crate::hearing::hear;
+use crate::hearing::seat_of;
+use crate::plans::Plan;
+use crate::plans::planned;
+use orders::Order;
+use orders::Orders;
+use orders::looked;
+use orders::mirror;
+use orders::no_order;
+use places::SYMBOLS;
+use places::spot;
+use record::Record;
+use record::Trade;
+use record::decided;
+use symbols::Place;
+use symbols::Symbols;
+use symbols::counted;
 use wire::Reach;
+ghost use mathlib.Core.Path.{_≡_};
+ghost use Rattle.book.specs.Planning.{bookOf};
 ghost use Rattle.book.specs.Walk.{Moves, Runs};
 
 // One message of a stream: the next state, where the next message starts, the answer, and whether a run stops here. Beside a 4 stands the offset in the message of
@@ -58,24 +80,173 @@ impl Book {
         }
     }
 
-    // Applies the messages from a position on, until answer 1 or a Msg Size below 4.
+    // Applies the messages from a position on, until answer 1 or a Msg Size below 4. The state stands in locals, array by array: a message stores single places of them, and what changes
+    // nothing copies nothing.
     pub fn run(self, s: &[u8], at: usize) -> Ran
         ensures { λ r. ⌜ Runs self (now (s .entry)) at r ⌝ }
     {
-        let mut book = self;
+        let market = markets::market_of(self.market);
+        let mut kept = self.market;
+        let entered = self.symbols;
+        let mut places = entered.places;
+        let mut seats = entered.tickets;
+        let live = self.orders;
+        let mut orders = live.places;
+        let mut numbers = live.numbers;
+        let mut lives = live.lives;
+        let mut spans = live.spans;
+        let record = self.trades;
+        let mut trades = record.places;
+        let mut tickets = record.tickets;
         let mut here = at;
-        let answer = loop {
-            let r = book.apply(s, here);
-            book = r.book;
-            here = r.at;
-            if r.stops {
-                break r.answer;
+        loop {
+            let reach = wire::reach_at(s, here);
+            match reach {
+                Reach::Short => {
+                    let book = book_of(
+                        places,
+                        seats,
+                        orders,
+                        numbers,
+                        lives,
+                        spans,
+                        trades,
+                        tickets,
+                        kept,
+                    );
+                    return Ran {
+                        book,
+                        at: here,
+                        answer: 1,
+                    };
+                }
+                Reach::Small => {
+                    let book = book_of(
+                        places,
+                        seats,
+                        orders,
+                        numbers,
+                        lives,
+                        spans,
+                        trades,
+                        tickets,
+                        kept,
+                    );
+                    return Ran {
+                        book,
+                        at: here,
+                        answer: 2,
+                    };
+                }
+                Reach::Size(size) => {
+                    let end = here + size;
+                    let d = wire::decode(market, &s[here..end]);
+                    here = end;
+                    let h = hear(d);
+                    let k = seat_of(&seats, h);
+                    let seat = spot(k, 1, 0);
+                    let p = places[seat];
+                    let t = due_of(h, k, p);
+                    let i = looked(&numbers, &lives, &spans, k, change_in(t));
+                    let found = spot(k, orders::EACH, i);
+                    let x = orders[found];
+                    let recording = decided(&tickets, k, deal_in(t));
+                    let slot = spot(k, record::EACH, recording.place);
+                    let y = trades[slot];
+                    let plan = planned(&numbers, &lives, &spans, k, i, x, recording, y, t);
+                    match plan {
+                        Plan::Nothing(_) => {}
+                        Plan::Stores(n) => {
+                            let none = no_order();
+                            let l = n.landing;
+                            let emptied = l.emptied;
+                            let filled = l.filled;
+                            let laid = l.order;
+                            orders[emptied] = none;
+                            orders[filled] = laid;
+                            let order = n.order;
+                            mirror(
+                                &mut numbers,
+                                &mut lives,
+                                &mut spans,
+                                k,
+                                n.gone,
+                                n.taken,
+                                order,
+                            );
+                            let slot = n.slot;
+                            let trade = n.trade;
+                            trades[slot] = trade;
+                            tickets[slot] = n.ticket;
+                            let next = counted(p, n.lost);
+                            places[k] = next;
+                        }
+                        Plan::Steps => {
+                            let book = book_of(
+                                places,
+                                seats,
+                                orders,
+                                numbers,
+                                lives,
+                                spans,
+                                trades,
+                                tickets,
+                                kept,
+                            );
+                            let r = book.step(d);
+                            let next = r.book;
+                            kept = next.market;
+                            let entered = next.symbols;
+                            places = entered.places;
+                            seats = entered.tickets;
+                            let live = next.orders;
+                            orders = live.places;
+                            numbers = live.numbers;
+                            lives = live.lives;
+                            spans = live.spans;
+                            let record = next.trades;
+                            trades = record.places;
+                            tickets = record.tickets;
+                        }
+                    }
+                }
             }
-        };
-        Ran {
-            book,
-            at: here,
-            answer,
         }
+    }
+}
+
+// The state of these arrays.
+fn book_of(
+    places: [Place; SYMBOLS],
+    seats: [u64; SYMBOLS],
+    live: [Order; orders::PLACES],
+    numbers: [u64; orders::PLACES],
+    lives: [bool; orders::PLACES],
+    spans: [u16; orders::PLACES],
+    kept: [Trade; record::PLACES],
+    tickets: [u64; record::PLACES],
+    market: u16,
+) -> Book
+    ensures { λ r. ⌜ r ≡ bookOf places seats live numbers lives spans kept tickets market ⌝ }
+{
+    let symbols = Symbols {
+        places,
+        tickets: seats,
+    };
+    let orders = Orders {
+        places: live,
+        numbers,
+        lives,
+        spans,
+    };
+    let trades = Record {
+        places: kept,
+        tickets,
+    };
+    Book {
+        symbols,
+        orders,
+        trades,
+        market,
     }
 }

@@ -4,7 +4,7 @@ use mathlib.Core.List.{[], List·Memᴰ}
 use mathlib.Core.Path.{_≡_, refl}
 use Prim.Native.Nat.{ℕ, _*_, _<_, _≤_}
 use lib.Dec.{eqb}
-use lib.ListN.{length}
+use lib.ListN.{length, length-replicate}
 use Rattle.places.specs.Places.{symbols, shelf, count}
 use Rattle.places.proofs.Living.{in-order-live}
 use Rattle.places.proofs.Nearness.{near-new}
@@ -29,6 +29,7 @@ module _ (b : Orders) (k : ℕ) where
 
 pub no-orders-sound : Wf noOrders
 no-orders-sound = record {
+  sized = record { places = length-replicate (symbols * ordersEach) noOrder; spans = length-replicate {A = ℕ} (symbols * ordersEach) 0 };
   singles = new-singles orderNumber orderLive ordersEach noOrder refl (symbols * ordersEach);
   mirrored = mirrored-new orderNumber orderLive (symbols * ordersEach) noOrder;
   near = λ k h. near-new ordersEach k (symbols * ordersEach);

@@ -7,3 +7,4 @@ pub mod Sides
 pub mod Executing
 pub mod Holding
 pub mod OneOutcome
+pub mod Laying

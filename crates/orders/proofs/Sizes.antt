@@ -10,11 +10,9 @@ use denote.Struct.Declared.{row}
 use Rattle.places.specs.Places.{symbols}
 use Rattle.places.specs.Homes.{homeOf}
 use Rattle.places.proofs.Rounds.{home-within}
-use Rattle.places.proofs.EightShelves.{shelf-reach, whole-shelf}
-use Rattle.orders.specs.State.{ordersEach, orderNumber, orderLive, Wf}
-use Rattle.orders.specs.Deciding.{Searchable}
+use Rattle.places.proofs.EightShelves.{shelf-reach}
+use Rattle.orders.specs.State.{ordersEach, Sized}
 use Rattle.orders.specs.declared.Orders.{Orders}
-use Rattle.orders.proofs.Storing.{Sized}
 use Rattle.orders.proofs.Orders.{the-type}
 
 module _ (b : Orders) (vs : List Val) (g : Is (row the-type) b vs) where
@@ -30,10 +28,6 @@ module _ (b : Orders) (vs : List Val) (g : Is (row the-type) b vs) where
   -- so each symbol's shelf lies within it
   pub orders-reach : (k : ℕ) → k < symbols → k * ordersEach + ordersEach ≤ length (b .places)
   orders-reach k h = shelf-reach ordersEach k (b .places) places-size h
-
-  -- and in a sound state it can be searched
-  pub searchable : (k : ℕ) → k < symbols → Wf b → Searchable (b .places) (b .numbers) (b .lives) (b .spans) k
-  searchable k h w = record { whole = whole-shelf orderNumber orderLive ordersEach (b .places) k (w .singles) h places-size; mirrored = w .mirrored; near = w .near k h }
 
 -- a home lies within a shelf
 pub home-in : (h number : ℕ) → h ≡ homeOf ordersEach number → h < ordersEach

@@ -17,7 +17,7 @@ use Rattle.places.proofs.Landing.{shelf-placed}
 use Rattle.places.proofs.Nearness.{near-stored, near-emptied}
 use Rattle.places.proofs.Mirroring.{as-many-numbers, as-many-marks, mirrored-set, mirrored-emptied}
 use Rattle.places.proofs.EightShelves.{shelf-reach, nothing-past, store-own, store-other, store-singles, emptied-own, emptied-other, emptied-singles}
-use Rattle.orders.specs.State.{ordersEach, noOrder, orderNumber, orderLive, shelfAt, liveAt, Wf}
+use Rattle.orders.specs.State.{ordersEach, noOrder, orderNumber, orderLive, shelfAt, liveAt, Sized, Wf}
 use Rattle.orders.specs.Rules.{applyTo}
 use Rattle.orders.specs.Deciding.{liveOrders, allBut, Decides, stays, lands, misfits, crowds, withOrder, settledAt, emptiedTo}
 use Rattle.orders.specs.Promises.{fitNumber, Obeys, Changes, Clears}
@@ -26,11 +26,6 @@ use Rattle.orders.specs.declared.Orders.{Orders}
 use Rattle.orders.specs.declared.Change.{Change}
 use Rattle.orders.specs.declared.Fit as code
 use Rattle.orders.specs.declared.rules.Verdict.{Verdict}
-
--- how long the arrays are that nothing else tells of
-pub record Sized (b : Orders) : Type 0 where
-  pub places : length (b .places) ≡ symbols * ordersEach
-  pub spans : length (b .spans) ≡ symbols * ordersEach
 
 module _ (b : Orders) (k : ℕ) (h : k < symbols) (s : Sized b) where
   in-places : k * ordersEach + ordersEach ≤ length (b .places)
@@ -74,6 +69,7 @@ module _ (b : Orders) (k : ℕ) (h : k < symbols) (s : Sized b) (i : ℕ) (o : O
   module _ (os : List Order) (p : Lands orderNumber orderLive ordersEach (shelfAt b k) i o os) where
     store-sound : Wf b → Wf (withOrder b k i o)
     store-sound w = record {
+      sized = store-sized;
       singles = store-singles orderNumber orderLive ordersEach (b .places) k i o os p (w .singles);
       mirrored = store-mirrored w;
       near = store-near w;
@@ -98,7 +94,7 @@ module _ (b : Orders) (k : ℕ) (h : k < symbols) (s : Sized b) (gone place : �
   }
 
 module _ (b : Orders) (k : ℕ) (h : k < symbols) (s : Sized b) where
-  settled-obeys : (roomFor : ℕ → ℕ) (v : Verdict) (x : Fit (List Order)) → Decides (shelfAt b k) roomFor v x → Wf b → Obeys b k x (settledAt b k v)
+  pub settled-obeys : (roomFor : ℕ → ℕ) (v : Verdict) (x : Fit (List Order)) → Decides (shelfAt b k) roomFor v x → Wf b → Obeys b k x (settledAt b k v)
   unfolding fitted liveAt
   settled-obeys roomFor v x (lands {gone = gone} {place = place} {o = o} {os = os} p q near) w = lands-obeys b k h s gone place o os p q w
   settled-obeys roomFor v x stays w = record { wf = w; fit = refl; own = refl; others = λ m ne. refl }
@@ -118,12 +114,12 @@ settled-kept b k Verdict.NoRoom ne = refl
 
 -- ---- so a change that is judged and settled keeps its promise
 module _ (b : Orders) (k : ℕ) (c : Change) where
-  pub changes : (roomFor : ℕ → ℕ) (v : Verdict) → Sized b → k < symbols → (Wf b → Decides (shelfAt b k) roomFor v (applyTo (liveOrders (shelfAt b k)) c)) → Changes b k c (settledAt b k v)
+  pub changes : (roomFor : ℕ → ℕ) (v : Verdict) → k < symbols → (Wf b → Decides (shelfAt b k) roomFor v (applyTo (liveOrders (shelfAt b k)) c)) → Changes b k c (settledAt b k v)
   unfolding liveAt
-  changes roomFor v s h p = record {
+  changes roomFor v h p = record {
     kept = settled-kept b k v;
     outside = λ o. absurd (omega (arith, h, o));
-    obeys = λ j w. settled-obeys b k h s roomFor v (applyTo (liveAt b k) c) (p w) w;
+    obeys = λ j w. settled-obeys b k h (w .sized) roomFor v (applyTo (liveAt b k) c) (p w) w;
   }
 
   pub changes-nothing : symbols ≤ k → Changes b k c (record { orders = b; fit = code.Fit.Misfit })
@@ -146,11 +142,13 @@ module _ (b : Orders) (k : ℕ) where
   clears s h =
       let reach = in-places b k h s in
       let p = is-emptied ordersEach k noOrder (b .places) reach ordersEach (omega arith) in
+      let q = is-emptied ordersEach k 0 (b .spans) (in-spans b k h s) ordersEach (omega arith) in
       record {
         outside = λ o. absurd (omega (arith, h, o));
         own = λ j. emptied-own orderNumber orderLive ordersEach noOrder refl (b .places) _ k p reach;
         others = emptied-other orderNumber orderLive ordersEach noOrder refl (b .places) _ k p reach;
         wf = λ w. record {
+          sized = record { places = p .long ∙ s .places; spans = q .long ∙ s .spans };
           singles = emptied-singles orderNumber orderLive ordersEach noOrder refl (b .places) _ k p reach (w .singles);
           mirrored = mirrored-emptied orderNumber orderLive ordersEach k noOrder (b .places) (b .numbers) (b .lives) ordersEach (w .mirrored);
           near = λ m g. near-emptied (b .numbers) (b .lives) (b .spans) ordersEach k (in-numbers b k h s w) (in-lives b k h s w) (in-spans b k h s) m (w .near m g);

@@ -3,11 +3,11 @@ use mathlib.Core.Bool.{Bool, true, false, cond}
 use mathlib.Core.List.{List}
 use mathlib.Core.Option.{none}
 use mathlib.Core.Path.{_≡_}
-use Prim.Native.Nat.{ℕ, _*_, _<_}
+use Prim.Native.Nat.{ℕ, _*_, _<_, _≤_}
 use lib.Dec.{ltb}
-use lib.ListN.{getD}
+use lib.ListN.{getD, set}
 use Rattle.feed.specs.Reader.{Fit, fits, misfit, no-room}
-use Rattle.places.specs.Places.{shelf, remove, look, inOrder, Shelf, FoundAt, FreeAt, placed, placedIn, Lands, emptied}
+use Rattle.places.specs.Places.{symbols, shelf, remove, look, inOrder, Shelf, FoundAt, FreeAt, placed, placedIn, spotIn, Lands, emptied}
 use Rattle.places.specs.Homes.{spansAfter, Mirrored, Near}
 use Rattle.orders.specs.State.{ordersEach, noOrder, orderNumber, orderLive}
 use Rattle.orders.specs.declared.Fit as code
@@ -15,7 +15,14 @@ use Rattle.orders.specs.declared.Order.{Order}
 use Rattle.orders.specs.declared.Orders.{Orders}
 use Rattle.orders.specs.declared.Change.{Change}
 use Rattle.orders.specs.declared.Changed.{Changed}
+use Rattle.orders.specs.declared.landing.Landing.{Landing}
 use Rattle.orders.specs.declared.rules.Verdict.{Verdict}
+
+-- ---- what searches read: numbers, marks and spans
+pub record Beside : Type 0 where
+  pub numbers : List ℕ
+  pub lives : List Bool
+  pub spans : List ℕ
 
 -- ---- a symbol's places, and what a search in them promises
 abbrev pub OrderShelf : List Order → Type 0
@@ -30,14 +37,18 @@ OrderAt n l i = FoundAt orderNumber orderLive noOrder ordersEach n l i
 abbrev pub OrderRoom : List Order → ℕ → Type 0
 OrderRoom l i = FreeAt orderLive noOrder ordersEach l i
 
--- the order that a change finds first: its own, or the old one of a replace
-abbrev pub named : Change → ℕ
-named Change.Nothing = 0
-named (Change.Add n buy p v) = n
-named (Change.Modify n buy p v) = n
-named (Change.Delete n) = n
-named (Change.Execute n v) = n
-named (Change.Replace old n buy p v) = old
+-- what is found for a change: its own order, or the old one of a replace
+abbrev pub Found : Change → List Order → ℕ → Type 0
+Found Change.Nothing l i = Unit {0}
+Found (Change.Add n buy p v) l i = OrderAt n l i
+Found (Change.Modify n buy p v) l i = OrderAt n l i
+Found (Change.Delete n) l i = OrderAt n l i
+Found (Change.Execute n v) l i = OrderAt n l i
+Found (Change.Replace old n buy p v) l i = OrderAt old l i
+
+-- the order that lies at the place found
+abbrev pub Lies : Order → List Order → ℕ → Type 0
+Lies x l i = i < ordersEach → x ≡ getD l i noOrder
 
 -- what searches read is that of the orders, and those of symbol k lie where searches look for them
 pub record Searchable (l : List Order) (numbers : List ℕ) (lives : List Bool) (spans : List ℕ) (k : ℕ) : Type 0 where
@@ -62,14 +73,39 @@ pub data Decides (l : List Order) (roomFor : ℕ → ℕ) : Verdict → Fit (Lis
   crowds : Decides l roomFor Verdict.NoRoom no-room
 
 -- ---- the stores
+-- what searches read, without the orders; and that with a number and a mark at place i of symbol k, and the spans that follow
+abbrev pub beside : List ℕ → List Bool → List ℕ → Beside
+beside ns ls ss = record { numbers = ns; lives = ls; spans = ss }
+
+abbrev pub besideWith : Beside → ℕ → ℕ → ℕ → Bool → Beside
+besideWith b k i number live = record {
+  numbers = placedIn ordersEach k (b .numbers) i number;
+  lives = placedIn ordersEach k (b .lives) i live;
+  spans = cond (ltb i ordersEach) (spansAfter (b .numbers) (b .lives) (b .spans) (k * ordersEach) ordersEach i number live) (b .spans);
+}
+
+-- one place emptied, then one filled
+pub record Mirrors (b : Beside) (k gone place : ℕ) (o : Order) (r : Beside) : Type 0 where
+  pub inside : k < symbols → r ≡ besideWith (besideWith b k gone 0 false) k place (o .number) (o .live)
+  pub outside : symbols ≤ k → r ≡ b
+
 -- an order at place i of symbol k: its number and mark beside it, and the spans follow
+abbrev pub besides : Orders → Beside
+besides b = beside (b .numbers) (b .lives) (b .spans)
+
 abbrev pub withOrder : Orders → ℕ → ℕ → Order → Orders
 withOrder b k i o = record {
   places = placedIn ordersEach k (b .places) i o;
-  numbers = placedIn ordersEach k (b .numbers) i (o .number);
-  lives = placedIn ordersEach k (b .lives) i (o .live);
-  spans = cond (ltb i ordersEach) (spansAfter (b .numbers) (b .lives) (b .spans) (k * ordersEach) ordersEach i (o .number) (o .live)) (b .spans);
+  numbers = besideWith (besides b) k i (o .number) (o .live) .numbers;
+  lives = besideWith (besides b) k i (o .number) (o .live) .lives;
+  spans = besideWith (besides b) k i (o .number) (o .live) .spans;
 }
+
+-- two stores among all places that come to one place emptied and one filled
+pub record LandsAs (k gone place : ℕ) (o : Order) (i : ℕ) (x : Order) (r : Landing) : Type 0 where
+  pub within : (r .emptied < symbols * ordersEach) × (r .filled < symbols * ordersEach)
+  pub lands : (l : List Order) → k < symbols → x ≡ getD l (spotIn ordersEach k i) noOrder
+      → set (set l (r .emptied) noOrder) (r .filled) (r .order) ≡ placedIn ordersEach k (placedIn ordersEach k l gone noOrder) place o
 
 abbrev pub settledAt : Orders → ℕ → Verdict → Changed
 settledAt b k (Verdict.Fits gone place o) = record { orders = withOrder (withOrder b k gone noOrder) k place o; fit = code.Fit.Fits }
@@ -85,3 +121,8 @@ emptiedTo b k j = record {
   lives = emptied ordersEach k false (b .lives) j;
   spans = emptied ordersEach k 0 (b .spans) j;
 }
+
+-- the places that a verdict changes, none where it is ordersEach; of one that doesn't fit there is nothing to store
+pub data Settled : Verdict → ℕ → ℕ → Order → Type 0 where
+  fits-as : {gone place : ℕ} {o : Order} → Settled (Verdict.Fits gone place o) gone place o
+  stays-as : {o : Order} → Settled Verdict.Stays ordersEach ordersEach o

@@ -1,8 +1,9 @@
 -- The live orders of eight symbols: document 01, "The book".
 use mathlib.Core.Bool.{Bool, false}
 use mathlib.Core.List.{List}
+use mathlib.Core.Path.{_≡_}
 use Prim.Native.Nat.{ℕ, _*_, _<_}
-use lib.ListN.{replicate}
+use lib.ListN.{length, replicate}
 use Rattle.places.specs.Places.{symbols, shelf, onShelf, Singles}
 use Rattle.places.specs.Homes.{Mirrored, Near}
 use Rattle.orders.specs.declared.Order.{Order}
@@ -28,8 +29,15 @@ shelfAt b k = shelf ordersEach k (b .places)
 unfoldable pub liveAt : Orders → ℕ → List Order
 liveAt b k = onShelf orderNumber orderLive ordersEach (b .places) k
 
--- what holds of every state: no number is live twice in a symbol; searches read the orders' own numbers and marks; each live order lies within the span of its home
+-- how long the arrays are that nothing else tells of
+pub record Sized (b : Orders) : Type 0 where
+  pub places : length (b .places) ≡ symbols * ordersEach
+  pub spans : length (b .spans) ≡ symbols * ordersEach
+
+-- what holds of every state: every symbol has its places; no number is live twice in a symbol; searches read the orders' own numbers and marks; each live order lies within the span of
+-- its home
 pub record Wf (b : Orders) : Type 0 where
+  pub sized : Sized b
   pub singles : Singles orderNumber orderLive ordersEach (b .places)
   pub mirrored : Mirrored orderNumber orderLive (b .places) (b .numbers) (b .lives)
   pub near : (k : ℕ) → k < symbols → Near (b .numbers) (b .lives) (b .spans) (k * ordersEach) ordersEach

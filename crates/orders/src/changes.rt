@@ -1,6 +1,7 @@
 // A change of a symbol's orders, at place k: find, decide, store.
 use crate::Change;
 use crate::Changed;
+use crate::EACH;
 use crate::Fit;
 use crate::ORDERS;
 use crate::Order;
@@ -13,18 +14,16 @@ use crate::rules::judge_execute;
 use crate::rules::judge_modify;
 use crate::rules::judge_replace;
 use crate::search::find;
-use crate::search::place_or_first;
 use crate::search::room;
 use places::SYMBOLS;
-ghost use mathlib.Core.Path.{_≡_};
+use places::spot;
 ghost use mathlib.Core.List.{List};
 ghost use Prim.Native.Nat.{_<_, _*_};
-ghost use lib.ListN.{getD};
 ghost use Rattle.places.specs.Places.{symbols, shelf};
 ghost use Rattle.places.specs.Homes.{freeIn};
-ghost use Rattle.orders.specs.State.{ordersEach, noOrder};
+ghost use Rattle.orders.specs.State.{ordersEach};
 ghost use Rattle.orders.specs.Rules.{applyTo};
-ghost use Rattle.orders.specs.Deciding.{named, liveOrders, OrderAt, Searchable, Decides};
+ghost use Rattle.orders.specs.Deciding.{liveOrders, Found, Lies, Searchable, Decides};
 ghost use Rattle.orders.specs.Promises.{Changes, Clears};
 
 impl Orders {
@@ -38,11 +37,10 @@ impl Orders {
                 fit: Fit::Misfit,
             };
         }
-        let number = number_in(c);
-        let i = find(&self.numbers, &self.lives, &self.spans, k, number);
-        let at = k * ORDERS + place_or_first(i);
+        let i = looked(&self.numbers, &self.lives, &self.spans, k, c);
+        let at = spot(k, EACH, i);
         let x = self.places[at];
-        let v = judge(&self.numbers, &self.lives, &self.spans, k, i, x, c);
+        let v = judged(&self.numbers, &self.lives, &self.spans, k, i, x, c);
         self.settle(k, v)
     }
 
@@ -57,22 +55,31 @@ impl Orders {
     }
 }
 
-// The order that a change finds first: its own, or the old one of a replace.
-fn number_in(c: Change) -> u64
-    ensures { λ r. ⌜ r ≡ named c ⌝ }
+// Where the order lies that a change is about, its own or the old one of a replace, or ORDERS. A change of none is looked for nowhere.
+pub fn looked<'a>(
+    numbers: &'a [u64; PLACES],
+    lives: &'a [bool; PLACES],
+    spans: &'a [u16; PLACES],
+    k: usize,
+    c: Change,
+) -> usize
+    ensures { λ r. ⌜ ((l : List Order) → k < symbols → Searchable l (now (numbers .entry)) (now (lives .entry)) (now (spans .entry)) k → Found c (shelf ordersEach k l) r) ⌝ }
 {
+    if SYMBOLS <= k {
+        return ORDERS;
+    }
     match c {
-        Change::Nothing => 0,
-        Change::Add(order, _, _, _) => order,
-        Change::Modify(order, _, _, _) => order,
-        Change::Delete(order) => order,
-        Change::Execute(order, _) => order,
-        Change::Replace(old, _, _, _, _) => old,
+        Change::Nothing => ORDERS,
+        Change::Add(order, _, _, _) => find(numbers, lives, spans, k, order),
+        Change::Modify(order, _, _, _) => find(numbers, lives, spans, k, order),
+        Change::Delete(order) => find(numbers, lives, spans, k, order),
+        Change::Execute(order, _) => find(numbers, lives, spans, k, order),
+        Change::Replace(old, _, _, _, _) => find(numbers, lives, spans, k, old),
     }
 }
 
-// What is decided of a change whose order was found at place i, or nowhere; x is the order there.
-fn judge<'a>(
+// What is decided of a change whose order was found at place i, or nowhere; x is the order there. Past the eighth symbol nothing fits.
+pub fn judged<'a>(
     numbers: &'a [u64; PLACES],
     lives: &'a [bool; PLACES],
     spans: &'a [u16; PLACES],
@@ -81,9 +88,11 @@ fn judge<'a>(
     x: Order,
     c: Change,
 ) -> Verdict
-    requires { ⌜ k < symbols ⌝ }
-    ensures { λ r. ⌜ ((l : List Order) → Searchable l (now (numbers .entry)) (now (lives .entry)) (now (spans .entry)) k → OrderAt (named c) (shelf ordersEach k l) i → (i < ordersEach → x ≡ getD (shelf ordersEach k l) i noOrder) → Decides (shelf ordersEach k l) (freeIn (now (lives .entry)) (k * ordersEach) ordersEach) r (applyTo (liveOrders (shelf ordersEach k l)) c)) ⌝ }
+    ensures { λ r. ⌜ ((l : List Order) → k < symbols → Searchable l (now (numbers .entry)) (now (lives .entry)) (now (spans .entry)) k → Found c (shelf ordersEach k l) i → Lies x (shelf ordersEach k l) i → Decides (shelf ordersEach k l) (freeIn (now (lives .entry)) (k * ordersEach) ordersEach) r (applyTo (liveOrders (shelf ordersEach k l)) c)) ⌝ }
 {
+    if SYMBOLS <= k {
+        return Verdict::Misfit;
+    }
     match c {
         Change::Nothing => Verdict::Stays,
         Change::Add(order, buy, price, volume) => {

@@ -2,25 +2,32 @@
 //
 // Nothing here knows of messages, of a message's number or of trades. The orders are taken by value and the next ones are handed back.
 mod changes;
+mod landing;
 mod levels;
 mod rules;
 mod search;
 mod store;
 
+pub use changes::judged;
+pub use changes::looked;
+pub use landing::Landing;
+pub use landing::land;
 pub use levels::Level;
 use places::SYMBOLS;
+pub use rules::Verdict;
+pub use store::mirror;
 ghost use mathlib.Core.Path.{_≡_};
 ghost use Rattle.orders.specs.State.{noOrder, noOrders};
 ghost use Rattle.orders.specs.Promises.{fitNumber};
 
 // Each symbol's own places.
-const ORDERS: usize = 64;
+pub const ORDERS: usize = 64;
 
 // The same, as searches take it.
-const EACH: u16 = ORDERS as u16;
+pub const EACH: u16 = ORDERS as u16;
 
 // The places of all symbols.
-const PLACES: usize = SYMBOLS * ORDERS;
+pub const PLACES: usize = SYMBOLS * ORDERS;
 
 // A place for an order: empty, or a live one.
 #[repr(C)]
@@ -35,10 +42,10 @@ pub struct Order {
 // The orders, and what searches read of them: their numbers, whether each is live, and, for each home of each symbol, how many places from it on may hold an order of it.
 #[repr(C)]
 pub struct Orders {
-    places: [Order; PLACES],
-    numbers: [u64; PLACES],
-    lives: [bool; PLACES],
-    spans: [u16; PLACES],
+    pub places: [Order; PLACES],
+    pub numbers: [u64; PLACES],
+    pub lives: [bool; PLACES],
+    pub spans: [u16; PLACES],
 }
 
 // What is done to a symbol's orders. An order comes as its number, whether it buys, its price and its volume.
@@ -97,7 +104,7 @@ pub fn number_of_fit(f: Fit) -> u8
 }
 
 // An empty place, all zero.
-fn no_order() -> Order
+pub fn no_order() -> Order
     ensures { λ r. ⌜ r ≡ noOrder ⌝ }
 {
     Order {

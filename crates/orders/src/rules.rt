@@ -13,7 +13,7 @@ ghost use Rattle.orders.specs.Deciding.{OrderShelf, OrderAt, OrderRoom, 
 ghost use Rattle.orders.specs.Rules.{applyTo};
 
 // It fits and changes no place; it fits, the place `gone` is emptied (ORDERS: none is), then the order goes to its place; it doesn't fit; there is no room.
-pub(crate) enum Verdict {
+pub enum Verdict {
     Stays,
     Fits {
         gone: usize,

@@ -4,10 +4,8 @@ use crate::ORDERS;
 use crate::Order;
 use crate::PLACES;
 ghost use mathlib.Core.Path.{_≡_};
-ghost use mathlib.Core.Bool.{cond};
 ghost use mathlib.Core.List.{List};
 ghost use Prim.Native.Nat.{ℕ, _<_, _*_};
-ghost use lib.Dec.{ltb};
 ghost use Rattle.places.specs.Places.{symbols, shelf};
 ghost use Rattle.places.specs.Homes.{freeIn, Mirrored, Near};
 ghost use Rattle.orders.specs.State.{ordersEach, orderNumber, orderLive};
@@ -33,11 +31,4 @@ pub(crate) fn room(lives: &[bool; PLACES], k: usize, number: u64) -> usize
     ensures { λ r. ⌜ (r ≡ freeIn (now (lives .entry)) (k * ordersEach) ordersEach number) × ((l : List Order) (ns : List ℕ) → Mirrored orderNumber orderLive l ns (now (lives .entry)) → OrderRoom (shelf ordersEach k l) r) ⌝ }
 {
     places::room(lives, k * ORDERS, EACH, number)
-}
-
-// A place that can be looked at: the one found, or the first where none was.
-pub(crate) fn place_or_first(i: usize) -> usize
-    ensures { λ r. ⌜ (r ≡ cond (ltb i ordersEach) i 0) × (r < ordersEach) ⌝ }
-{
-    if i < ORDERS { i } else { 0 }
 }

@@ -5,8 +5,10 @@ use crate::Fit;
 use crate::ORDERS;
 use crate::Order;
 use crate::Orders;
+use crate::PLACES;
 use crate::no_order;
 use crate::rules::Verdict;
+use places::SYMBOLS;
 use places::home_of;
 use places::lowered;
 use places::raised;
@@ -14,7 +16,7 @@ ghost use mathlib.Core.Path.{_≡_};
 ghost use Prim.Native.Nat.{_<_};
 ghost use Rattle.places.specs.Places.{symbols};
 ghost use Rattle.orders.specs.State.{ordersEach};
-ghost use Rattle.orders.specs.Deciding.{withOrder, settledAt, emptiedTo};
+ghost use Rattle.orders.specs.Deciding.{withOrder, settledAt, emptiedTo, beside, besideWith, Mirrors};
 
 impl Orders {
     pub(crate) fn settle(self, k: usize, v: Verdict) -> Changed
@@ -53,31 +55,23 @@ impl Orders {
         }
     }
 
-    // An order goes to a place of its symbol, whatever lay there. The span of its home is raised as far as it lies; that of the home of the number that stood there is lowered to
-    // the last order of that home.
+    // An order goes to a place of its symbol, whatever lay there.
     fn put_order(mut self, k: usize, i: usize, o: Order) -> Orders
         requires { ⌜ k < symbols ⌝ }
         ensures { λ r. ⌜ r ≡ withOrder self k i o ⌝ }
     {
+        let mut numbers = self.numbers;
+        let mut lives = self.lives;
+        let mut spans = self.spans;
+        mirror_one(&mut numbers, &mut lives, &mut spans, k, i, o.number, o.live);
+        self.numbers = numbers;
+        self.lives = lives;
+        self.spans = spans;
         if ORDERS <= i {
             return self;
         }
-        let from = k * ORDERS;
-        let at = from + i;
-        let was = self.numbers[at];
-        let number = o.number;
-        let live = o.live;
+        let at = k * ORDERS + i;
         self.places[at] = o;
-        self.numbers[at] = number;
-        self.lives[at] = live;
-        let gains = from + home_of(number, EACH);
-        let span = self.spans[gains];
-        let more = raised(span, EACH, number, live, i);
-        self.spans[gains] = more;
-        let loses = from + home_of(was, EACH);
-        let span = self.spans[loses];
-        let less = lowered(&self.numbers, &self.lives, span, from, EACH, was);
-        self.spans[loses] = less;
         self
     }
 
@@ -100,4 +94,54 @@ impl Orders {
         }
         next
     }
+}
+
+// What searches read, once a place was emptied and then another one filled: ORDERS for none. Past the eighth symbol nothing changes.
+pub fn mirror(
+    numbers: &mut [u64; PLACES],
+    lives: &mut [bool; PLACES],
+    spans: &mut [u16; PLACES],
+    k: usize,
+    gone: usize,
+    place: usize,
+    o: Order,
+)
+    ensures { λ _. ⌜ Mirrors (beside (now (numbers .entry)) (now (lives .entry)) (now (spans .entry))) k gone place o (beside (now (numbers .exit)) (now (lives .exit)) (now (spans .exit))) ⌝ }
+{
+    if SYMBOLS <= k {
+        return;
+    }
+    mirror_one(numbers, lives, spans, k, gone, 0, false);
+    mirror_one(numbers, lives, spans, k, place, o.number, o.live);
+}
+
+// The same of one place. The span of the new number's home is raised as far as it lies; that of the home of the number that stood there is lowered to the last order of that home.
+fn mirror_one(
+    numbers: &mut [u64; PLACES],
+    lives: &mut [bool; PLACES],
+    spans: &mut [u16; PLACES],
+    k: usize,
+    i: usize,
+    number: u64,
+    live: bool,
+)
+    requires { ⌜ k < symbols ⌝ }
+    ensures { λ _. ⌜ beside (now (numbers .exit)) (now (lives .exit)) (now (spans .exit)) ≡ besideWith (beside (now (numbers .entry)) (now (lives .entry)) (now (spans .entry))) k i number live ⌝ }
+{
+    if ORDERS <= i {
+        return;
+    }
+    let from = k * ORDERS;
+    let at = from + i;
+    let was = numbers[at];
+    numbers[at] = number;
+    lives[at] = live;
+    let gains = from + home_of(number, EACH);
+    let span = spans[gains];
+    let more = raised(span, EACH, number, live, i);
+    spans[gains] = more;
+    let loses = from + home_of(was, EACH);
+    let span = spans[loses];
+    let less = lowered(numbers, lives, span, from, EACH, was);
+    spans[loses] = less;
 }

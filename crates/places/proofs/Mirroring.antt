@@ -12,7 +12,7 @@ use Rattle.places.proofs.Nearness.{sought-there, sought-none, free-ther
 
 -- ---- a list's mirror follows it
 module _ {A B : Type 0} (f : A → B) where
-  map-set : (l : List A) (i : ℕ) (a : A) → map f (set l i a) ≡ set (map f l) i (f a)
+  pub map-set : (l : List A) (i : ℕ) (a : A) → map f (set l i a) ≡ set (map f l) i (f a)
   map-set [] i a = refl
   map-set (x ∷ l) zero a = refl
   map-set (x ∷ l) (suc i) a = ap (λ (z : List B). f x ∷ z) (map-set l i a)
@@ -22,7 +22,7 @@ module _ {A B : Type 0} (f : A → B) where
   map-emptied n k z l zero = refl
   map-emptied n k z l (suc j) = map-set (emptied n k z l j) (k * n + j) z ∙ ap (λ (m : List B). set m (k * n + j) (f z)) (map-emptied n k z l j)
 
-  map-replicated : (n : ℕ) (z : A) → map f (replicate n z) ≡ replicate n (f z)
+  pub map-replicated : (n : ℕ) (z : A) → map f (replicate n z) ≡ replicate n (f z)
   map-replicated zero z = refl
   map-replicated (suc n) z = ap (λ (l : List B). f z ∷ l) (map-replicated n z)
 

@@ -1,6 +1,8 @@
 // The home of a number, and the way round a shelf from it.
+use crate::SYMBOLS;
 ghost use mathlib.Core.Path.{_≡_};
 ghost use Prim.Native.Nat.{_<_, _≤_, min};
+ghost use Rattle.places.specs.Places.{spotIn};
 ghost use Rattle.places.specs.Homes.{homeOf, mostPlaces, roundFrom, awayFrom, outside};
 
 // Two to the power of 32: what a half of a number is below.
@@ -34,6 +36,20 @@ pub(crate) fn away_from(n: usize, home: usize, i: usize) -> usize
     ensures { λ r. ⌜ (r ≡ awayFrom n home i) × (r < n) ⌝ }
 {
     if home <= i { i - home } else { i + n - home }
+}
+
+// A place among all that can be looked at and stored to: place i of symbol k, or its first where i is none; and the first of all past the eighth symbol.
+pub fn spot(k: usize, each: u16, i: usize) -> usize
+    ensures { λ r. ⌜ r ≡ spotIn each k i ⌝ }
+{
+    let n = wide(each);
+    if SYMBOLS <= k {
+        return 0;
+    }
+    if i < n {
+        return k * n + i;
+    }
+    k * n
 }
 
 // Whether there is no such shelf in a list of this length.

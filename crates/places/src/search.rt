@@ -1,4 +1,4 @@
-// Searching a shelf: from a number's home on, going round.
+// Searching a shelf: from a number's home on, going round, or from the first place on.
 use crate::homes::capped;
 use crate::homes::home_of;
 use crate::homes::least;
@@ -9,6 +9,7 @@ ghost use mathlib.Core.Path.{_≡_};
 ghost use mathlib.Core.Bool.{false, cond};
 ghost use lib.Dec.{eqb};
 ghost use Rattle.places.specs.Homes.{soughtIn, freeIn};
+ghost use Rattle.places.specs.Tickets.{firstIn};
 
 // The first place of the shelf, from the number's home on and within that home's span, at which the number is live, or `each`.
 pub fn find<'a>(
@@ -65,6 +66,28 @@ pub fn room(lives: &[bool], from: usize, each: u16, number: u64) -> usize
         } else {
             break i;
         }
+    };
+    at
+}
+
+// The first place of the shelf at which a number stands, or `each`.
+pub fn first(numbers: &[u64], from: usize, each: u16, number: u64) -> usize
+    ensures { λ r. ⌜ r ≡ firstIn (now (numbers .entry)) from each number ⌝ }
+{
+    let n = wide(each);
+    if lies_outside(from, n, numbers.len()) {
+        return n;
+    }
+    let mut j: usize = 0;
+    let at = loop {
+        if n <= j {
+            break n;
+        }
+        let p = from + j;
+        if numbers[p] == number {
+            break j;
+        }
+        j += 1;
     };
     at
 }

@@ -1,16 +1,20 @@
 -- Each recording is the rule's: the search says which clause of the rule it is, and the store that goes with it is one of the changes of a shelf.
 use mathlib.Core.Bool.{true, false}
 use mathlib.Core.List.{List}
+use mathlib.Core.Option.{Option, none, some}
 use mathlib.Core.Path.{_≡_, refl}
 use Prim.Native.Nat.{ℕ, _<_, _≤_}
 use borrow.Author.Tests.{lt-ltb}
-use Rattle.places.specs.Places.{insert, remove}
+use Rattle.places.specs.Places.{insert, remove, look}
 use Rattle.places.proofs.Landing.{lands-nowhere, missing, found, crowded, roomy, lands-new, lands-out}
 use Rattle.record.specs.State.{tradesEach, noTrade, tradeNumber, tradeLive}
-use Rattle.record.specs.Rules.{dealTo, after, tradeOf}
-use Rattle.record.specs.Deciding.{TradeShelf, TradeAt, TradeRoom, keptTrades, Decides, unrecorded}
+use Rattle.record.specs.Rules.{dealTo, after, tradeOf, recorded}
+use Rattle.record.specs.Deciding.{TradeShelf, TradeAt, TradeRoom, keptTrades, Decides, unrecorded, Spares}
 use Rattle.record.specs.declared.Trade.{Trade}
 use Rattle.record.specs.declared.Deal.{Deal}
+
+pub spares-lost : Spares (unrecorded true)
+spares-lost = λ e. refl
 
 module _ (l : List Trade) (w : TradeShelf l) where
   pub nothing-dealt : Decides l Deal.Nothing (unrecorded false)
@@ -20,6 +24,15 @@ module _ (l : List Trade) (w : TradeShelf l) where
   -- nothing recorded or removed, and the mark goes
   loses : (d : Deal) → dealTo (keptTrades l) d ≡ after (keptTrades l) true → Decides l d (unrecorded true)
   loses d e = record { lands = rw e (lands-nowhere tradeNumber tradeLive noTrade refl tradesEach l w noTrade); lost = rw e }
+
+  -- every place live: whatever the number, and whether it is kept or not
+  pub record-crowded : (n p v j : ℕ) → TradeRoom l j → tradesEach ≤ j → Decides l (Deal.Records n p v) (unrecorded true)
+  unfolding dealTo
+  record-crowded n p v j room g = loses (Deal.Records n p v) (rw (crowded tradeNumber tradeLive noTrade refl tradesEach l w j room g) (go (look tradeNumber n (keptTrades l))))
+    where
+      go : (x : Option Trade) → recorded (keptTrades l) (tradeOf n p v) x false ≡ after (keptTrades l) true
+      go none = refl
+      go (some x) = refl
 
   module _ (n p v i j : ℕ) (at : TradeAt n l i) (room : TradeRoom l j) where
     pub record-twice : i < tradesEach → Decides l (Deal.Records n p v) (unrecorded true)

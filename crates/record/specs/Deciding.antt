@@ -2,8 +2,10 @@
 use mathlib.Core.Bool.{Bool, true}
 use mathlib.Core.List.{List}
 use mathlib.Core.Path.{_≡_}
-use Prim.Native.Nat.{ℕ}
-use Rattle.places.specs.Places.{inOrder, Shelf, FoundAt, FreeAt, placedIn, Lands}
+use Prim.Native.Nat.{ℕ, _*_}
+use lib.ListN.{length}
+use Rattle.places.specs.Places.{symbols, inOrder, Shelf, FoundAt, FreeAt, placedIn, Lands}
+use Rattle.places.specs.Tickets.{ticket, Ticketed}
 use Rattle.record.specs.State.{tradesEach, noTrade, tradeNumber, tradeLive}
 use Rattle.record.specs.Rules.{dealTo}
 use Rattle.record.specs.declared.Trade.{Trade}
@@ -24,6 +26,11 @@ TradeAt n l i = FoundAt tradeNumber tradeLive noTrade tradesEach n l i
 abbrev pub TradeRoom : List Trade → ℕ → Type 0
 TradeRoom l i = FreeAt tradeLive noTrade tradesEach l i
 
+-- what searches read is that of the trades
+pub record Searchable (l : List Trade) (tickets : List ℕ) : Type 0 where
+  pub long : length l ≡ symbols * tradesEach
+  pub ticketed : Ticketed tradeNumber tradeLive l tickets
+
 -- ---- a recording is what the rule says of the kept trades; one that takes the mark changes no place
 pub record Decides (l : List Trade) (d : Deal) (r : Recording) : Type 0 where
   pub lands : Lands tradeNumber tradeLive tradesEach l (r .place) (r .trade) (dealTo (keptTrades l) d .trades)
@@ -37,4 +44,4 @@ Spares r = r .lost ≡ true → r .place ≡ tradesEach
 
 -- ---- the store
 abbrev pub withTrade : Record → ℕ → ℕ → Trade → Record
-withTrade b k i t = record { places = placedIn tradesEach k (b .places) i t }
+withTrade b k i t = record { places = placedIn tradesEach k (b .places) i t; tickets = placedIn tradesEach k (b .tickets) i (ticket tradeNumber tradeLive t) }

@@ -1,9 +1,11 @@
 -- The kept trades of eight symbols: document 01, "The trade record".
 use mathlib.Core.Bool.{Bool, false}
 use mathlib.Core.List.{List}
+use mathlib.Core.Path.{_≡_}
 use Prim.Native.Nat.{ℕ, _*_}
-use lib.ListN.{replicate}
+use lib.ListN.{length, replicate}
 use Rattle.places.specs.Places.{symbols, shelf, onShelf, Singles}
+use Rattle.places.specs.Tickets.{Ticketed}
 use Rattle.record.specs.declared.Trade.{Trade}
 use Rattle.record.specs.declared.Record.{Record}
 
@@ -27,10 +29,12 @@ shelfAt b k = shelf tradesEach k (b .places)
 unfoldable pub keptAt : Record → ℕ → List Trade
 keptAt b k = onShelf tradeNumber tradeLive tradesEach (b .places) k
 
--- what holds of every state: no number is kept twice in a symbol
+-- what holds of every state: no number is kept twice in a symbol, every symbol has its places, and searches read the trades' own numbers
 pub record Wf (b : Record) : Type 0 where
   pub singles : Singles tradeNumber tradeLive tradesEach (b .places)
+  pub long : length (b .places) ≡ symbols * tradesEach
+  pub ticketed : Ticketed tradeNumber tradeLive (b .places) (b .tickets)
 
 -- the new record: every place empty
 abbrev pub noTrades : Record
-noTrades = record { places = replicate (symbols * tradesEach) noTrade }
+noTrades = record { places = replicate (symbols * tradesEach) noTrade; tickets = replicate (symbols * tradesEach) 0 }

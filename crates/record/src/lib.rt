@@ -6,15 +6,22 @@ mod rules;
 mod search;
 mod shares;
 
+pub use deals::decided;
+pub use deals::trade_or;
 use places::SYMBOLS;
+pub use rules::Recording;
+pub use search::ticket_of;
 ghost use mathlib.Core.Path.{_≡_};
 ghost use Rattle.record.specs.State.{noTrade, noTrades};
 
 // Each symbol's own places.
-const TRADES: usize = 128;
+pub const TRADES: usize = 128;
+
+// The same, as searches take it.
+pub const EACH: u16 = TRADES as u16;
 
 // The places of all symbols.
-const PLACES: usize = SYMBOLS * TRADES;
+pub const PLACES: usize = SYMBOLS * TRADES;
 
 // A place for a trade: empty, or a kept one.
 #[repr(C)]
@@ -25,9 +32,11 @@ pub struct Trade {
     volume: u32,
 }
 
+// The trades, and what searches read of them: at each place its trade's number and one, or 0 where it is empty.
 #[repr(C)]
 pub struct Record {
-    places: [Trade; PLACES],
+    pub places: [Trade; PLACES],
+    pub tickets: [u64; PLACES],
 }
 
 // What is done to a symbol's record. A trade comes as its number, its price and its volume.
@@ -50,7 +59,8 @@ impl Record {
     {
         let t = no_trade();
         let places = [t; PLACES];
-        Record { places }
+        let tickets = [0; PLACES];
+        Record { places, tickets }
     }
 }
 

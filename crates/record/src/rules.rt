@@ -9,10 +9,10 @@ ghost use mathlib.Core.List.{List};
 ghost use Rattle.record.specs.Deciding.{TradeShelf, TradeAt, TradeRoom, Decides, unrecorded, Spares};
 
 // The place to change (TRADES: none), and whether the whole mark goes.
-pub(crate) struct Recording {
-    pub(crate) place: usize,
-    pub(crate) trade: Trade,
-    pub(crate) lost: bool,
+pub struct Recording {
+    pub place: usize,
+    pub trade: Trade,
+    pub lost: bool,
 }
 
 pub(crate) fn nothing() -> Recording
@@ -27,7 +27,7 @@ pub(crate) fn nothing() -> Recording
 }
 
 // The mark is lost; nothing is recorded or removed.
-fn mark_lost() -> Recording
+pub(crate) fn mark_lost() -> Recording
     ensures { λ r. ⌜ r ≡ unrecorded true ⌝ }
 {
     let trade = no_trade();

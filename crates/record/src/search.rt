@@ -1,60 +1,35 @@
-// Searching a symbol's places. How a search goes is its own affair: it promises what stands at the place that it hands back.
-use crate::Record;
+// Searching a symbol's places: what is read of them is lent. How a search goes is its own affair: it promises what stands at the place that it hands back.
+use crate::EACH;
+use crate::PLACES;
 use crate::TRADES;
 use crate::Trade;
 ghost use mathlib.Core.Path.{_≡_};
+ghost use mathlib.Core.List.{List};
 ghost use Prim.Native.Nat.{_<_};
-ghost use Rattle.places.specs.Places.{symbols, has};
-ghost use Rattle.record.specs.State.{tradeNumber, tradeLive, shelfAt};
-ghost use Rattle.record.specs.Deciding.{TradeAt, TradeRoom};
+ghost use Rattle.places.specs.Places.{symbols, shelf};
+ghost use Rattle.places.specs.Tickets.{ticket};
+ghost use Rattle.record.specs.State.{tradesEach, tradeNumber, tradeLive};
+ghost use Rattle.record.specs.Deciding.{TradeAt, TradeRoom, Searchable};
 
-impl Record {
-    // Where a kept trade lies, or TRADES.
-    pub(crate) fn find_trade(self, k: usize, number: u32) -> usize
-        requires { ⌜ k < symbols ⌝ }
-        ensures { λ r. ⌜ TradeAt number (shelfAt self k) r ⌝ }
-    {
-        let base = k * TRADES;
-        let mut j: usize = 0;
-        let at = loop {
-            if TRADES <= j {
-                break TRADES;
-            }
-            let i = base + j;
-            let t = self.places[i];
-            if is_trade(t, number) {
-                break j;
-            }
-            j += 1;
-        };
-        at
-    }
-
-    // An empty place for a trade, or TRADES.
-    pub(crate) fn trade_room(self, k: usize) -> usize
-        requires { ⌜ k < symbols ⌝ }
-        ensures { λ r. ⌜ TradeRoom (shelfAt self k) r ⌝ }
-    {
-        let base = k * TRADES;
-        let mut j: usize = 0;
-        let at = loop {
-            if TRADES <= j {
-                break TRADES;
-            }
-            let i = base + j;
-            let t = self.places[i];
-            if t.live {
-                j += 1;
-            } else {
-                break j;
-            }
-        };
-        at
-    }
+// Where a kept trade lies, or TRADES.
+pub(crate) fn find_trade(tickets: &[u64; PLACES], k: usize, number: u32) -> usize
+    requires { ⌜ k < symbols ⌝ }
+    ensures { λ r. ⌜ ((l : List Trade) → Searchable l (now (tickets .entry)) → TradeAt number (shelf tradesEach k l) r) ⌝ }
+{
+    places::first(tickets, k * TRADES, EACH, number as u64 + 1)
 }
 
-fn is_trade(t: Trade, number: u32) -> bool
-    ensures { λ r. ⌜ r ≡ has tradeNumber tradeLive number t ⌝ }
+// An empty place for a trade, or TRADES.
+pub(crate) fn trade_room(tickets: &[u64; PLACES], k: usize) -> usize
+    requires { ⌜ k < symbols ⌝ }
+    ensures { λ r. ⌜ ((l : List Trade) → Searchable l (now (tickets .entry)) → TradeRoom (shelf tradesEach k l) r) ⌝ }
 {
-    if t.live { t.number == number } else { false }
+    places::first(tickets, k * TRADES, EACH, 0)
+}
+
+// What searches read of a place.
+pub fn ticket_of(t: Trade) -> u64
+    ensures { λ r. ⌜ r ≡ ticket tradeNumber tradeLive t ⌝ }
+{
+    if t.live { t.number as u64 + 1 } else { 0 }
 }

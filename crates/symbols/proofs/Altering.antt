@@ -4,25 +4,22 @@ use mathlib.Core.Option.{Option, none, some, Option·map}
 use mathlib.Core.Path.{_≡_, refl, sym, ap, _∙_}
 use Prim.Native.Nat.{ℕ, _<_, _≤_}
 use native.Mathlib.Omega.{arith}
-use lib.ListN.{length, getD, set}
+use lib.ListN.{length, getD, set, length-set}
 use lib.Seq.{set-getD}
 use Rattle.places.specs.Places.{symbols, one, count}
 use Rattle.places.proofs.Sums.{sum-set}
-use Rattle.symbols.specs.State.{Entry, hasIndex, placeAt, entryIn, entries, itself}
-use Rattle.symbols.specs.Turns.{standingOf}
+use Rattle.places.proofs.Ticketing.{ticketed-same}
+use Rattle.symbols.specs.State.{Entry, nowhere, hasIndex, placeAt, entryIn, entries, itself, placeIndex, placeUsed}
+use Rattle.symbols.specs.Turns.{restanding, standingOf}
 use Rattle.symbols.specs.Promises.{standingBy, altered, Alters}
 use Rattle.symbols.specs.declared.Standing.{Standing}
 use Rattle.symbols.specs.declared.Place.{Place}
 use Rattle.symbols.specs.declared.Symbols.{Symbols}
 use Rattle.symbols.proofs.Entries.{seen, length-entries, entry-at, entry-past, withPlace, entries-set}
 
--- a place with another standing
-abbrev restanding : Place → Standing → Place
-restanding p s = record { used = p .used; index = p .index; name = p .name; len = p .len; scale = p .scale; standing = s }
-
-seen-moved : (s : Standing) (u : Bool) (p : Place) → seen u (entryIn (restanding p s)) ≡ Option·map (standingBy (λ t. s)) (seen u (entryIn p))
-seen-moved s true p = refl
-seen-moved s false p = refl
+seen-moved : (f : Standing → Standing) (u : Bool) (p : Place) → seen u (entryIn (restanding p (f (p .standing)))) ≡ Option·map (standingBy f) (seen u (entryIn p))
+seen-moved f true p = refl
+seen-moved f false p = refl
 
 -- what is known of where the symbol stands says what it becomes
 same-moved : (f : Standing → Standing) (x : Option Entry) (s : Standing) → s ≡ f (standingOf x) → Option·map (standingBy (λ t. s)) x ≡ Option·map (standingBy f) x
@@ -45,18 +42,27 @@ module _ (b : Symbols) (k : ℕ) where
       let w = (rw (same-index index f x) at z) in
       rw e (omega (arith, w, once))
 
-  module _ (s : Standing) where
-    stored : k < symbols → length (b .places) ≡ symbols → entries (withPlace b k (restanding (placeAt b k) s)) ≡ altered k (λ t. s) (entries b)
-    unfolding altered
-    stored h eight = entries-set b k (restanding (placeAt b k) s) h eight ∙ ap (λ (x : Option Entry). set (entries b) k x) (seen-moved s (placeAt b k .used) (placeAt b k) ∙ ap (Option·map (standingBy (λ t. s))) (sym (entry-at b k h)))
+  -- a place that stands otherwise
+  module _ (f : Standing → Standing) (h : k < symbols) (eight : length (b .places) ≡ symbols) where
+    abbrev moved : Place
+    moved = restanding (placeAt b k) (f (placeAt b k .standing))
 
-    pub stands : k < symbols → length (b .places) ≡ symbols → Alters b k (λ t. s) (withPlace b k (restanding (placeAt b k) s))
-    stands h eight = record {
+    stored : entries (withPlace b k moved (b .tickets)) ≡ altered k f (entries b)
+    unfolding altered
+    stored = entries-set b k moved (b .tickets) h eight ∙ ap (λ (x : Option Entry). set (entries b) k x) (seen-moved f (placeAt b k .used) (placeAt b k) ∙ ap (Option·map (standingBy f)) (sym (entry-at b k h)))
+
+    pub stands : Alters b k f (withPlace b k moved (b .tickets))
+    stands = record {
       outside = λ o. absurd (omega (arith, h, o));
-      next = stored h eight;
-      wf = λ w. record { once = λ index. still-once (λ t. s) _ h (stored h eight) index (w .once index) };
+      next = stored;
+      wf = λ w. record {
+        once = λ index. still-once f _ h stored index (w .once index);
+        long = length-set (b .places) k moved ∙ w .long;
+        ticketed = ticketed-same placeIndex placeUsed (b .places) (b .tickets) k moved nowhere refl (w .ticketed);
+      };
     }
 
+  module _ (s : Standing) where
     pub stands-nowhere : symbols ≤ k → Alters b k (λ t. s) b
     unfolding altered
     stands-nowhere h = record {

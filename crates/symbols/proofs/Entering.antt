@@ -3,15 +3,16 @@ use mathlib.Core.Bool.{Bool, true, false, cond, true≢false}
 use mathlib.Core.List.{List}
 use mathlib.Core.Option.{Option, none, some}
 use mathlib.Core.Path.{_≡_, refl, sym, ap, _∙_}
-use Prim.Native.Nat.{ℕ, _+_, _<_, _≤_}
+use Prim.Native.Nat.{ℕ, suc, _+_, _<_, _≤_}
 use native.Mathlib.Omega.{arith}
 use borrow.Author.Tests.{lt-ltb, le-ltb, ltb-false, eqb-true}
 use lib.Dec.{ltb, eqb}
-use lib.ListN.{length, getD, take, set, replicate}
+use lib.ListN.{length, getD, take, set, length-set, replicate}
 use Rattle.places.specs.Places.{symbols, firstWhere, one, count}
 use Rattle.places.proofs.Searching.{first-passes, none-counted}
 use Rattle.places.proofs.Sums.{sum-set}
-use Rattle.symbols.specs.State.{nameBytes, paddedName, Entry, hasIndex, isVacant, placeAt, entryIn, entries, itself, placeOf, foundIn, vacancyOf, nobody}
+use Rattle.places.proofs.Ticketing.{ticketed-set}
+use Rattle.symbols.specs.State.{nameBytes, paddedName, Entry, hasIndex, isVacant, placeAt, entryIn, entries, itself, placeOf, foundIn, vacancyOf, placeIndex, placeUsed, nobody}
 use Rattle.symbols.specs.Registering.{byteBad, nameBad, mostScale, newEntry, registered, toldOf}
 use Rattle.symbols.specs.Promises.{Registers}
 use Rattle.symbols.specs.declared.Place.{Place}
@@ -71,16 +72,18 @@ module _ (b : Symbols) (index : ℕ) (name : List ℕ) (scale : ℕ) where
                 omega (arith, rw q at w, none-yet)
             go false q w = omega (arith, rw q at w, once)
 
-        pub enters : (k : ℕ) → k ≡ vacancyOf (entries b) → k < symbols → length (b .places) ≡ symbols → Registers b index name scale (record { symbols = withPlace b k (newPlace index name scale); answer = 0 })
+        pub enters : (k : ℕ) → k ≡ vacancyOf (entries b) → k < symbols → length (b .places) ≡ symbols → Registers b index name scale (record { symbols = withPlace b k (newPlace index name scale) (set (b .tickets) k (suc index)); answer = 0 })
         unfolding registered
         enters k e h eight =
             let l : ltb (vacancyOf (entries b)) symbols ≡ true = lt-ltb _ _ (rw e at h) in
             record {
               kept = λ z. absurd (z refl);
-              next = rw (le-ltb _ _ s, n, le-ltb _ _ u, l) (entries-set b k (newPlace index name scale) h eight ∙ ap (λ (m : ℕ). set (entries b) m (some (entryIn (newPlace index name scale)))) e);
+              next = rw (le-ltb _ _ s, n, le-ltb _ _ u, l) (entries-set b k (newPlace index name scale) (set (b .tickets) k (suc index)) h eight ∙ ap (λ (m : ℕ). set (entries b) m (some (entryIn (newPlace index name scale)))) e);
               answer = rw (le-ltb _ _ s, n, le-ltb _ _ u, l);
               wf = λ w. record {
-                once = λ i. rw (entries-set b k (newPlace index name scale) h eight) (entered-once k e h (entryIn (newPlace index name scale)) refl i (w .once i));
+                once = λ i. rw (entries-set b k (newPlace index name scale) (set (b .tickets) k (suc index)) h eight) (entered-once k e h (entryIn (newPlace index name scale)) refl i (w .once i));
+                long = length-set (b .places) k (newPlace index name scale) ∙ w .long;
+                ticketed = ticketed-set placeIndex placeUsed (b .places) (b .tickets) k (newPlace index name scale) (w .ticketed);
               };
             }
 

@@ -1,16 +1,19 @@
 -- What stands at a place of the entries is what the place of registration tells, and a place changed is seen there alone.
 use mathlib.Core.Bool.{Bool, true, false, cond, false≢true}
+use mathlib.Core.List.{List}
 use mathlib.Core.Option.{Option, none, some}
 use mathlib.Core.Path.{_≡_, refl, sym, ap, _∙_}
-use Prim.Native.Nat.{ℕ, _<_, _≤_}
+use Prim.Native.Nat.{ℕ, suc, _<_, _≤_}
 use native.Mathlib.Omega.{arith}
 use lib.Dec.{eqb}
-use lib.ListN.{length, getD, set, List·getD-eq-default, replicate}
-use lib.Seq.{getD-set-same, getD-set-other}
+use lib.ListN.{length, getD, set, take, List·getD-eq-default, replicate}
+use lib.Seq.{take-length, getD-set-same, getD-set-other}
 use Rattle.places.specs.Places.{symbols, tabulate, firstWhere, sumBy, count}
 use Rattle.places.proofs.Tables.{length-tabulate, getD-tabulate, tabulate-but-one, first-alike}
+use Rattle.places.specs.Tickets.{firstIn}
 use Rattle.places.proofs.Searching.{first-passes}
-use Rattle.symbols.specs.State.{nowhere, Entry, placeAt, entryIn, entries, itself, hasIndex, isVacant, placeOf, vacancyOf, Wf, nobody}
+use Rattle.places.proofs.Ticketing.{has-ticket, first-on}
+use Rattle.symbols.specs.State.{nowhere, Entry, placeAt, entryIn, entries, itself, hasIndex, isVacant, placeOf, vacancyOf, placeIndex, placeUsed, Wf, nobody}
 use Rattle.symbols.specs.declared.Place.{Place}
 use Rattle.symbols.specs.declared.Symbols.{Symbols}
 
@@ -75,17 +78,17 @@ used-there b index k e h =
     seen-named index (placeAt b k .used) (entryIn (placeAt b k)) (sym (ap (hasIndex itself index) (entry-at b k h)) ∙ p)
 
 -- ---- a place changed
-abbrev pub withPlace : Symbols → ℕ → Place → Symbols
-withPlace b k p = record { places = set (b .places) k p }
+abbrev pub withPlace : Symbols → ℕ → Place → List ℕ → Symbols
+withPlace b k p ts = record { places = set (b .places) k p; tickets = ts }
 
-module _ (b : Symbols) (k : ℕ) (p : Place) (in-range : k < symbols) (eight : length (b .places) ≡ symbols) where
-  place-set : placeAt (withPlace b k p) k ≡ p
+module _ (b : Symbols) (k : ℕ) (p : Place) (ts : List ℕ) (in-range : k < symbols) (eight : length (b .places) ≡ symbols) where
+  place-set : placeAt (withPlace b k p ts) k ≡ p
   place-set = getD-set-same (b .places) k p nowhere (rw eight in-range)
 
-  place-other : (m : ℕ) → (m ≡ k → ⊥) → placeAt (withPlace b k p) m ≡ placeAt b m
+  place-other : (m : ℕ) → (m ≡ k → ⊥) → placeAt (withPlace b k p ts) m ≡ placeAt b m
   place-other m ne = getD-set-other (b .places) k m p nowhere ne
 
-  pub entries-set : entries (withPlace b k p) ≡ set (entries b) k (seen (p .used) (entryIn p))
+  pub entries-set : entries (withPlace b k p ts) ≡ set (entries b) k (seen (p .used) (entryIn p))
   unfolding entries
   entries-set = tabulate-but-one symbols _ _ k in-range (λ m l ne. rw (place-other m ne)) ∙ ap (λ (q : Place). set (entries b) k (seen (q .used) (entryIn q))) place-set
 
@@ -99,4 +102,10 @@ unfolding entries tabulate sumBy
 nobody-once index = omega arith
 
 pub nobody-sound : Wf nobody
-nobody-sound = record { once = nobody-once }
+nobody-sound = record { once = nobody-once; long = refl; ticketed = refl }
+
+-- ---- by the tickets
+pub seat-is : (b : Symbols) → Wf b → (index : ℕ) → firstIn (b .tickets) 0 symbols (suc index) ≡ placeOf itself index (entries b)
+seat-is b w index =
+    first-on placeIndex placeUsed nowhere refl (b .places) (b .tickets) (w .ticketed) symbols 0 (omega arith) (rw (w .long) (omega arith)) (suc index) (named index) (has-ticket placeIndex placeUsed index)
+    ∙ ap (λ (n : ℕ). firstWhere (named index) (take n (b .places))) (sym (w .long)) ∙ ap (firstWhere (named index)) (take-length (b .places)) ∙ place-is b (w .long) index

@@ -2,10 +2,12 @@
 use mathlib.Core.Bool.{Bool, true, false, cond}
 use mathlib.Core.List.{List, []}
 use mathlib.Core.Option.{Option, none, some}
+use mathlib.Core.Path.{_≡_}
 use Prim.Native.Nat.{ℕ, _≤_}
 use lib.Dec.{eqb}
-use lib.ListN.{getD, replicate}
+use lib.ListN.{length, getD, replicate}
 use Rattle.places.specs.Places.{symbols, tabulate, firstWhere, count}
+use Rattle.places.specs.Tickets.{Ticketed}
 use Rattle.symbols.specs.declared.Standing.{Standing}
 use Rattle.symbols.specs.declared.Place.{Place}
 use Rattle.symbols.specs.declared.Symbols.{Symbols}
@@ -60,8 +62,11 @@ placeAt b k = getD (b .places) k nowhere
 abbrev pub entryIn : Place → Entry
 entryIn p = record { index = p .index; name = p .name; len = p .len; scale = p .scale; standing = p .standing }
 
+abbrev pub entrySeen : Place → Option Entry
+entrySeen p = cond (p .used) (some (entryIn p)) none
+
 unfoldable pub entries : Symbols → List (Option Entry)
-entries b = tabulate symbols (λ k. cond (placeAt b k .used) (some (entryIn (placeAt b k))) none)
+entries b = tabulate symbols (λ k. entrySeen (placeAt b k))
 
 -- an entry by itself, with nothing beside it
 abbrev pub itself : Entry → Entry
@@ -71,10 +76,18 @@ itself e = e
 unfoldable pub paddedName : List ℕ → List ℕ
 paddedName name = tabulate nameBytes (λ i. getD name i 0)
 
--- ---- what holds of every state: no index is registered twice
+-- ---- what holds of every state: no index is registered twice, there are eight places, and searches read the symbols' own indices
+abbrev pub placeIndex : Place → ℕ
+placeIndex p = p .index
+
+abbrev pub placeUsed : Place → Bool
+placeUsed p = p .used
+
 pub record Wf (b : Symbols) : Type 0 where
   pub once : (index : ℕ) → count (hasIndex itself index) (entries b) ≤ 1
+  pub long : length (b .places) ≡ symbols
+  pub ticketed : Ticketed placeIndex placeUsed (b .places) (b .tickets)
 
 -- ---- the new symbols: nobody is registered
 abbrev pub nobody : Symbols
-nobody = record { places = replicate symbols noSymbol }
+nobody = record { places = replicate symbols noSymbol; tickets = replicate symbols 0 }

@@ -5,6 +5,7 @@ use Prim.Native.Nat.{ℕ, _+_}
 use lib.Dec.{ltb, eqb}
 use Rattle.feed.specs.Reader.{fits, Ruling, unchanged, made-stale, applied, ruled}
 use Rattle.symbols.specs.State.{numbers, Entry}
+use Rattle.symbols.specs.declared.Place.{Place}
 use Rattle.symbols.specs.declared.Standing.{Standing}
 
 -- ---- what becomes of a symbol
@@ -28,6 +29,10 @@ restarted next s = record { expected = next; stale = false; whole = cond (eqb ne
 -- past the last number that a message can carry there is none to count
 abbrev pub countedIf : Bool → Standing → Standing
 countedIf lost s = cond (ltb (s .expected) numbers) (counted lost s) s
+
+-- a place with another standing
+abbrev pub restanding : Place → Standing → Place
+restanding p s = record { used = p .used; index = p .index; name = p .name; len = p .len; scale = p .scale; standing = s }
 
 -- where a symbol stands; an empty place counts as stale, and its record as not whole
 abbrev pub noStanding : Standing

@@ -8,11 +8,17 @@ mod turns;
 use places::SYMBOLS;
 pub use registering::Entered;
 pub use registering::Listing;
+pub use registering::seat;
+pub use turns::counted;
+pub use turns::turn_of;
 ghost use mathlib.Core.Path.{_≡_};
 ghost use Rattle.symbols.specs.State.{noSymbol, nobody};
 
 // The longest name of a symbol, in bytes.
 pub const NAME: usize = 11;
+
+// The places of registration, as searches take their number.
+const EACH: u16 = SYMBOLS as u16;
 
 // Where a symbol stands: the number that it expects, whether it is refused until a clear, and whether its record is whole.
 #[repr(C)]
@@ -33,9 +39,11 @@ pub struct Place {
     standing: Standing,
 }
 
+// The places, and what a search by index reads of them: at each place its symbol's index and one, or 0 where it is empty.
 #[repr(C)]
 pub struct Symbols {
-    places: [Place; SYMBOLS],
+    pub places: [Place; SYMBOLS],
+    pub tickets: [u64; SYMBOLS],
 }
 
 impl Symbols {
@@ -45,7 +53,8 @@ impl Symbols {
     {
         let p = no_symbol();
         let places = [p; SYMBOLS];
-        Symbols { places }
+        let tickets = [0; SYMBOLS];
+        Symbols { places, tickets }
     }
 }
 

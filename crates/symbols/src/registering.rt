@@ -1,4 +1,5 @@
 // Registering, and where a symbol lies.
+use crate::EACH;
 use crate::NAME;
 use crate::Place;
 use crate::Standing;
@@ -8,7 +9,10 @@ use crate::names::padded_name;
 use places::SYMBOLS;
 ghost use mathlib.Core.Path.{_≡_};
 ghost use mathlib.Core.Bool.{false, cond};
+ghost use Prim.Native.Nat.{suc};
 ghost use lib.Dec.{eqb};
+ghost use Rattle.places.specs.Places.{symbols};
+ghost use Rattle.places.specs.Tickets.{firstIn};
 ghost use Rattle.symbols.specs.State.{entries, itself, placeOf, foundIn, vacancyOf};
 ghost use Rattle.symbols.specs.Registering.{toldOf};
 ghost use Rattle.symbols.specs.Promises.{Registers};
@@ -77,6 +81,7 @@ impl Symbols {
             standing,
         };
         self.places[free] = p;
+        self.tickets[free] = index as u64 + 1;
         Entered {
             symbols: self,
             answer: 0,
@@ -143,6 +148,13 @@ impl Symbols {
         };
         at
     }
+}
+
+// The place of the symbol with this index among lent tickets, or SYMBOLS.
+pub fn seat(tickets: &[u64; SYMBOLS], index: u32) -> usize
+    ensures { λ r. ⌜ r ≡ firstIn (now (tickets .entry)) 0 symbols (suc index) ⌝ }
+{
+    places::first(tickets, 0, EACH, index as u64 + 1)
 }
 
 fn is_named(used: bool, at: u32, index: u32) -> bool

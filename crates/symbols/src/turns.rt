@@ -1,4 +1,5 @@
 // The number in turn, stale, and the mark, of the symbol at place k. Past the eighth place there is nobody, and the symbols are handed back as they were.
+use crate::Place;
 use crate::Standing;
 use crate::Symbols;
 use places::SYMBOLS;
@@ -6,8 +7,8 @@ ghost use mathlib.Core.Path.{_≡_};
 ghost use mathlib.Core.Option.{none};
 ghost use lib.Dec.{ltb};
 ghost use lib.ListN.{getD};
-ghost use Rattle.symbols.specs.State.{entries};
-ghost use Rattle.symbols.specs.Turns.{turnAnswer, turnAt, standingOf, noStanding, staled, countedIf, restarted};
+ghost use Rattle.symbols.specs.State.{entrySeen, entries};
+ghost use Rattle.symbols.specs.Turns.{turnAnswer, turnAt, standingOf, noStanding, staled, countedIf, restarted, restanding};
 ghost use Rattle.symbols.specs.Promises.{Alters};
 
 // How many numbers a message can carry.
@@ -22,11 +23,7 @@ impl Symbols {
             return 5;
         }
         let p = self.places[k];
-        if p.used {
-            let s = p.standing;
-            return turn(s.stale, s.expected, number);
-        }
-        5
+        turn_of(p, number)
     }
 
     // Where a symbol stands.
@@ -78,6 +75,28 @@ impl Symbols {
         self.places[k] = p;
         self
     }
+}
+
+// Whether a number is in its turn at a place.
+pub fn turn_of(p: Place, number: u32) -> u8
+    ensures { λ r. ⌜ r ≡ turnAt (entrySeen p) number ⌝ }
+{
+    if p.used {
+        let s = p.standing;
+        return turn(s.stale, s.expected, number);
+    }
+    5
+}
+
+// A place whose symbol has used a number more.
+pub fn counted(p: Place, lost: bool) -> Place
+    ensures { λ r. ⌜ r ≡ restanding p (countedIf lost (p .standing)) ⌝ }
+{
+    let s = p.standing;
+    let next = counted_if(s, lost);
+    let mut q = p;
+    q.standing = next;
+    q
 }
 
 // Stale is tested before the number.

@@ -1,6 +1,6 @@
 -- The place and the turn pick the clause of the rule; in its turn the message is taken.
 use native.Mathlib.Omega.{arith}
-use Rattle.book.proofs.Acting.{Asked, meeting-above, meeting-away, awaits, meeting-turn}
+use Rattle.book.proofs.Acting.{Asked, refuses, meeting-above, meeting-away, awaits, meeting-turn}
 use borrow.Author.Needs.{needs}
 use Rattle.book.proofs.Book.meet.Statement.{statement}
 use Rattle.book.proofs.Book.meet.Tie as tie
@@ -22,7 +22,7 @@ returns : tie.Need-returns
 returns c = meeting-above _ _ _ (c .before .before .before .before .before .args .effect) _ _ (asked (c .before .before)) _ (c .before .if1 .taken) (c .make-stale .ensures)
 
 returns-2 : tie.Need-returns-2
-returns-2 c = meeting-away _ _ _ (c .before .before .before .before .before .args .effect) _ _ (asked (c .before .before)) (c .before .if1 .left) (c .if2 .taken)
+returns-2 c = refuses _ _ _ (meeting-away _ _ _ (c .before .before .before .before .before .args .effect) _ _ (asked (c .before .before)) (c .before .if1 .left) (c .if2 .taken))
 
 take-requires : tie.Need-take-requires
 take-requires c κs = awaits _ _ _ (c .before .before .before .before .before .args .effect) _ _ (asked (c .before .before)) (c .if2 .left) (omega arith)

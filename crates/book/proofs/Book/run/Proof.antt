@@ -1,37 +1,309 @@
--- What is left of the walk from here gives what the walk from the start gives.
-use Prim.Native.Nat.{_-_}
+-- The state stands in locals, array by array: what is left of the walk from here gives what the walk from the start gives. Each turn is a step of the state that the arrays make.
+use mathlib.Core.List.{List}
+use mathlib.Core.Path.{_≡_, refl, sym, ap, _∙_}
+use Prim.Native.Nat.{ℕ, _+_, _-_, _<_, _≤_}
 use native.Mathlib.Omega.{arith}
 use denote.Ref.{now}
-use lib.ListN.{length}
-use Rattle.book.proofs.Walking.{Left, left-all, left-on, left-end, goes-on}
+use lib.ListN.{length, getD, drop}
+use Rattle.wire.specs.Outcome.{done}
+use Rattle.wire.specs.Reading.{reachedAs, reachOf, decodedAs}
+use Rattle.places.specs.Places.{symbols}
+use Rattle.places.proofs.Landing.{spot-within}
+use Rattle.symbols.specs.State.{nowhere}
+use Rattle.symbols.specs.Turns.{restanding, countedIf}
+use Rattle.symbols.specs.declared.Place.{Place}
+use Rattle.orders.specs.State.{ordersEach, noOrder}
+use Rattle.orders.specs.declared.Order.{Order}
+use Rattle.record.specs.State.{tradesEach, noTrade}
+use Rattle.book.specs.State.{Wf}
+use Rattle.book.specs.Planning.{bookOf, Plans, Within, Inside}
+use Rattle.book.specs.declared.Book.{Book}
+use Rattle.book.proofs.Walking.{Left, left-all, move-within, turn-stops, turn-less, turn-on}
+use Rattle.book.proofs.Planning.{own-seat, Sees, due-here, looked-here, nothing-steps, stores-step}
 use borrow.Author.Needs.{needs}
 use Rattle.book.proofs.Book.run.Statement.{statement}
 use Rattle.book.proofs.Book.run.Tie as tie
 
 abbrev Inv-loop : tie.InvT-loop
-Inv-loop s at book₀ here₀ book here = Left s here₀ book₀ here book
+Inv-loop s at market kept₀ places₀ seats₀ orders₀ numbers₀ lives₀ spans₀ trades₀ tickets₀ here₀ kept places seats orders numbers lives spans trades tickets here =
+    Left s here₀ (bookOf places₀ seats₀ orders₀ numbers₀ lives₀ spans₀ trades₀ tickets₀ kept₀) here (bookOf places seats orders numbers lives spans trades tickets kept)
 
 abbrev μ-loop : tie.MeasureT-loop
-μ-loop s at book₀ here₀ book here = length s - here
+μ-loop s at market kept₀ places₀ seats₀ orders₀ numbers₀ lives₀ spans₀ trades₀ tickets₀ here₀ kept places seats orders numbers lives spans trades tickets here = length s - here
+
+-- ---- the message reaches so far
+reaches : (m : tie.After-known-told Inv-loop μ-loop) → reachOf (drop (m .before .before .before .before .loop .here) (now (m .before .before .before .before .before .before .before .before .before .before .before .before .before .before .before .before .before .before .args .s))) ≡ done (m .before .reach .given .0 .0)
+reaches m = sym (m .before .before .before .reach-at .ensures) ∙ ap reachedAs (m .before .reach .given .1)
+
+within : (m : tie.After-known-told Inv-loop μ-loop) → m .before .before .before .before .loop .here + m .before .reach .given .0 .0 ≤ length (now (m .before .before .before .before .before .before .before .before .before .before .before .before .before .before .before .before .before .before .args .s))
+within m = move-within (now (m .before .before .before .before .before .before .before .before .before .before .before .before .before .before .before .before .before .before .args .s)) (m .before .before .before .before .loop .here) (m .before .reach .given .0 .0) (reaches m)
+
+-- ---- what was looked at, in the state that the arrays make
+abbrev state : (k : tie.After-planned Inv-loop μ-loop) → Book
+state k = let l = k .before .before .before .before .before .before .before .before .before .before .before .before .before .before .before .before .before .before .before .before .before .before .before .before .before .before .before .before .loop in bookOf (l .places) (l .seats) (l .orders) (l .numbers) (l .lives) (l .spans) (l .trades) (l .tickets) (l .kept)
+
+sees : (k : tie.After-planned Inv-loop μ-loop) → Sees (state k) (decodedAs (k .before .before .before .before .before .before .before .before .before .before .before .before .before .before .before .before .before .before .before .before .before .before .decode .result)) (k .before .before .before .before .before .before .before .before .before .before .before .before .before .before .before .before .before .before .before .before .before .hear .result) (k .before .before .before .before .before .before .before .before .before .before .before .before .before .before .before .before .before .before .before .seat-of .result) (getD (k .before .before .before .before .before .before .before .before .before .before .before .before .before .before .before .before .before .before .before .before .before .before .before .before .before .before .before .before .loop .places) (k .before .before .before .before .before .before .before .before .before .before .before .before .before .before .before .before .before .before .spot .result) nowhere) (k .before .before .before .before .before .before .before .before .before .before .before .before .before .before .before .before .due-of .result) (k .before .before .before .before .before .before .before .before .before .before .before .looked .result)
+    (getD (k .before .before .before .before .before .before .before .before .before .before .before .before .before .before .before .before .before .before .before .before .before .before .before .before .before .before .before .before .loop .orders) (k .before .before .before .before .before .before .before .before .before .before .spot2 .result) noOrder) (k .before .before .before .before .before .before .decided .result) (getD (k .before .before .before .before .before .before .before .before .before .before .before .before .before .before .before .before .before .before .before .before .before .before .before .before .before .before .before .before .loop .trades) (k .before .before .before .before .before .spot3 .result) noTrade)
+sees k =
+    let l = k .before .before .before .before .before .before .before .before .before .before .before .before .before .before .before .before .before .before .before .before .before .before .before .before .before .before .before .before .loop in
+    record {
+      hears = k .before .before .before .before .before .before .before .before .before .before .before .before .before .before .before .before .before .before .before .before .before .hear .ensures;
+      seat = k .before .before .before .before .before .before .before .before .before .before .before .before .before .before .before .before .before .before .before .seat-of .ensures;
+      place = λ h. ap (λ (n : ℕ). getD (l .places) n nowhere) (k .before .before .before .before .before .before .before .before .before .before .before .before .before .before .before .before .before .before .spot .ensures ∙ own-seat _ h);
+      due = k .before .before .before .before .before .before .before .before .before .before .before .before .before .before .before .before .due-of .ensures (state k) _;
+      lies = record { order = ap (λ (n : ℕ). getD (l .orders) n noOrder) (k .before .before .before .before .before .before .before .before .before .before .spot2 .ensures); trade = ap (λ (n : ℕ). getD (l .trades) n noTrade) (k .before .before .before .before .before .spot3 .ensures) };
+      found = λ h s. rw (k .before .before .before .before .before .before .before .before .before .before .before .before .change-in .ensures) at (k .before .before .before .before .before .before .before .before .before .before .before .looked .ensures (l .orders) h s);
+      decides = λ h s w. rw (k .before .before .before .before .before .before .before .deal-in .ensures) at (k .before .before .before .before .before .before .decided .ensures .0 (l .trades) h s w);
+    }
+
+plans : (k : tie.After-planned Inv-loop μ-loop) → Wf (state k) → Plans (state k) (decodedAs (k .before .before .before .before .before .before .before .before .before .before .before .before .before .before .before .before .before .before .before .before .before .before .decode .result)) (k .before .before .before .before .before .before .before .before .before .before .before .before .before .before .before .before .before .before .before .seat-of .result) (k .planned .result)
+plans k w = k .planned .ensures .0 (state k) _ w refl (due-here (state k) _ w _ _ _ _ _ _ _ _ (sees k)) (looked-here (state k) _ w _ _ _ _ _ _ _ _ (sees k))
+
+market-of-requires : tie.Need-market-of-requires Inv-loop μ-loop
+market-of-requires c κs = search needs
 
 loop-holds : tie.Need-loop-holds Inv-loop μ-loop
 loop-holds c = left-all _ _ _
 
-apply-requires : tie.Need-apply-requires Inv-loop μ-loop
-apply-requires c κs = search needs
+reach-at-requires : tie.Need-reach-at-requires Inv-loop μ-loop
+reach-at-requires c κs = search needs
 
-loop-less : tie.Need-loop-less Inv-loop μ-loop
-loop-less c =
-    let p = c .before .before .before .loop in
-    let f = goes-on (p .book) (now (c .before .before .before .before .before .args .s)) (p .here) _ (c .before .before .apply .ensures) (c .if1 .left) in
-    omega (arith, f .0, f .1)
+enum-told : tie.Need-enum-told Inv-loop μ-loop
+enum-told c = search needs
 
-loop-again : tie.Need-loop-again Inv-loop μ-loop
-loop-again c = left-on _ _ _ _ (c .before .before .apply .ensures) _ _ (c .if1 .left) (c .before .before .before .loop .inv)
+book-of-requires : tie.Need-book-of-requires Inv-loop μ-loop
+book-of-requires c κs = search needs
 
 returns : tie.Need-returns Inv-loop μ-loop
-returns c = left-end _ _ _ _ (c .before .before .apply .ensures) _ _ (c .if1 .taken) (c .before .before .before .loop .inv)
+returns c = rw (c .book-of .ensures) (turn-stops _ _ _ _ _ (c .before .before .before .before .loop .inv) 1 (sym (c .before .before .before .reach-at .ensures) ∙ ap reachedAs (c .before .enum-told .given .1)))
+
+enum-told-2 : tie.Need-enum-told-2 Inv-loop μ-loop
+enum-told-2 c = search needs
+
+book-of-requires-2 : tie.Need-book-of-requires-2 Inv-loop μ-loop
+book-of-requires-2 c κs = search needs
+
+returns-2 : tie.Need-returns-2 Inv-loop μ-loop
+returns-2 c = rw (c .book-of2 .ensures) (turn-stops _ _ _ _ _ (c .before .before .before .before .loop .inv) 2 (sym (c .before .before .before .reach-at .ensures) ∙ ap reachedAs (c .before .enum-told2 .given .1)))
+
+enum-known-reach : tie.Need-enum-known-reach Inv-loop μ-loop
+enum-known-reach c = search needs
+
+add-end : tie.Need-add-end Inv-loop μ-loop
+add-end c = omega (arith, within c, c .before .before .before .before .before .before .before .before .before .before .before .before .before .before .before .before .before .before .good)
+
+sub-decode : tie.Need-sub-decode Inv-loop μ-loop
+sub-decode c = search needs
+
+part-decode-start : tie.Need-part-decode-start Inv-loop μ-loop
+part-decode-start c = search needs
+
+part-decode-end : tie.Need-part-decode-end Inv-loop μ-loop
+part-decode-end c = within c
+
+decode-requires : tie.Need-decode-requires Inv-loop μ-loop
+decode-requires c κs = search needs
+
+hear-requires : tie.Need-hear-requires Inv-loop μ-loop
+hear-requires c κs = search needs
+
+seat-of-requires : tie.Need-seat-of-requires Inv-loop μ-loop
+seat-of-requires c κs = search needs
+
+spot-requires : tie.Need-spot-requires Inv-loop μ-loop
+spot-requires c κs = search needs
+
+mul-p : tie.Need-mul-p Inv-loop μ-loop
+mul-p c = omega (arith, c .spot .ensures, spot-within 1 (c .before .seat-of .result) 0 (omega arith))
+
+array-copy-out-p : tie.Need-array-copy-out-p Inv-loop μ-loop
+array-copy-out-p c = omega (arith, c .spot .ensures, spot-within 1 (c .before .seat-of .result) 0 (omega arith))
+
+due-of-requires : tie.Need-due-of-requires Inv-loop μ-loop
+due-of-requires c κs = search needs
+
+change-in-requires : tie.Need-change-in-requires Inv-loop μ-loop
+change-in-requires c κs = search needs
+
+looked-requires : tie.Need-looked-requires Inv-loop μ-loop
+looked-requires c κs = search needs
+
+spot-requires-2 : tie.Need-spot-requires-2 Inv-loop μ-loop
+spot-requires-2 c κs = search needs
+
+mul-x : tie.Need-mul-x Inv-loop μ-loop
+mul-x c = omega (arith, c .spot2 .ensures, spot-within ordersEach (c .before .before .before .before .before .before .before .before .before .seat-of .result) (c .before .looked .result) (omega arith))
+
+array-copy-out-x : tie.Need-array-copy-out-x Inv-loop μ-loop
+array-copy-out-x c = omega (arith, c .spot2 .ensures, spot-within ordersEach (c .before .before .before .before .before .before .before .before .before .seat-of .result) (c .before .looked .result) (omega arith))
+
+deal-in-requires : tie.Need-deal-in-requires Inv-loop μ-loop
+deal-in-requires c κs = search needs
+
+decided-requires : tie.Need-decided-requires Inv-loop μ-loop
+decided-requires c κs = search needs
+
+spot-requires-3 : tie.Need-spot-requires-3 Inv-loop μ-loop
+spot-requires-3 c κs = search needs
+
+mul-y : tie.Need-mul-y Inv-loop μ-loop
+mul-y c = omega (arith, c .spot3 .ensures, spot-within tradesEach (c .before .before .before .before .before .before .before .before .before .before .before .before .before .before .seat-of .result) (c .before .decided .result .place) (omega arith))
+
+array-copy-out-y : tie.Need-array-copy-out-y Inv-loop μ-loop
+array-copy-out-y c = omega (arith, c .spot3 .ensures, spot-within tradesEach (c .before .before .before .before .before .before .before .before .before .before .before .before .before .before .seat-of .result) (c .before .decided .result .place) (omega arith))
+
+planned-requires : tie.Need-planned-requires Inv-loop μ-loop
+planned-requires c κs = search needs
+
+enum-told-3 : tie.Need-enum-told-3 Inv-loop μ-loop
+enum-told-3 c = search needs
+
+loop-less : tie.Need-loop-less Inv-loop μ-loop
+loop-less c = let m = c .before .before .before .before .before .before .before .before .before .before .before .before .before .before .before .before .before .before .before .before .before .before .before .before .before .before in turn-less _ _ _ _ _ (m .before .before .before .before .loop .inv) (m .before .reach .given .0 .0) (reaches m)
+
+loop-again : tie.Need-loop-again Inv-loop μ-loop
+loop-again c =
+    let k = c .before .before in
+    let m = c .before .before .before .before .before .before .before .before .before .before .before .before .before .before .before .before .before .before .before .before .before .before .before .before .before .before in
+    let q = c .before .before .before .before .before .before .before .before .before .before .before .before .before .before .before .before .before .before .before .before .before .before .before .before in
+    turn-on _ _ _ _ _ (c .before .before .before .before .before .before .before .before .before .before .before .before .before .before .before .before .before .before .before .before .before .before .before .before .before .before .before .before .before .before .loop .inv) (m .before .reach .given .0 .0) (reaches m) (q .decode .result) _ (m .before .before .before .before .before .before .before .before .before .before .before .before .before .before .before .before .market-of .ensures) (q .decode .ensures .0) (record { book = _; answer = _ })
+    (nothing-steps (state k) _ _ (λ w. rw (c .enum-told3 .given .1) at (plans k w)))
+
+enum-known-plan : tie.Need-enum-known-plan Inv-loop μ-loop
+enum-known-plan c = search needs
+
+no-order-requires : tie.Need-no-order-requires Inv-loop μ-loop
+no-order-requires c κs = search needs
+
+mul-orders : tie.Need-mul-orders Inv-loop μ-loop
+mul-orders c = let n = (rw (c .before .before .before .before .plan .given .1) at (c .before .before .before .before .before .before .planned .ensures .1)) in omega (arith, n .emptied)
+
+array-set-from-orders : tie.Need-array-set-from-orders Inv-loop μ-loop
+array-set-from-orders c = let n = (rw (c .before .before .before .before .plan .given .1) at (c .before .before .before .before .before .before .planned .ensures .1)) in omega (arith, n .emptied)
+
+mul-orders-2 : tie.Need-mul-orders-2 Inv-loop μ-loop
+mul-orders-2 c = let n = (rw (c .before .before .before .before .plan .given .1) at (c .before .before .before .before .before .before .planned .ensures .1)) in omega (arith, n .filled)
+
+array-set-from-orders-2 : tie.Need-array-set-from-orders-2 Inv-loop μ-loop
+array-set-from-orders-2 c = let n = (rw (c .before .before .before .before .plan .given .1) at (c .before .before .before .before .before .before .planned .ensures .1)) in omega (arith, n .filled)
+
+mirror-requires : tie.Need-mirror-requires Inv-loop μ-loop
+mirror-requires c κs = search needs
+
+mul-trades : tie.Need-mul-trades Inv-loop μ-loop
+mul-trades c = let n = (rw (c .before .before .before .before .before .before .before .before .before .before .plan .given .1) at (c .before .before .before .before .before .before .before .before .before .before .before .before .planned .ensures .1)) in omega (arith, n .slot)
+
+array-set-from-trades : tie.Need-array-set-from-trades Inv-loop μ-loop
+array-set-from-trades c = let n = (rw (c .before .before .before .before .before .before .before .before .before .before .plan .given .1) at (c .before .before .before .before .before .before .before .before .before .before .before .before .planned .ensures .1)) in omega (arith, n .slot)
+
+mul-tickets : tie.Need-mul-tickets Inv-loop μ-loop
+mul-tickets c = let n = (rw (c .before .before .before .before .before .before .before .before .before .before .plan .given .1) at (c .before .before .before .before .before .before .before .before .before .before .before .before .planned .ensures .1)) in omega (arith, n .slot)
+
+array-write-tickets : tie.Need-array-write-tickets Inv-loop μ-loop
+array-write-tickets c = let n = (rw (c .before .before .before .before .before .before .before .before .before .before .plan .given .1) at (c .before .before .before .before .before .before .before .before .before .before .before .before .planned .ensures .1)) in omega (arith, n .slot)
+
+counted-requires : tie.Need-counted-requires Inv-loop μ-loop
+counted-requires c κs = search needs
+
+mul-places : tie.Need-mul-places Inv-loop μ-loop
+mul-places c = let n = (rw (c .before .before .before .before .before .before .before .before .before .before .before .plan .given .1) at (c .before .before .before .before .before .before .before .before .before .before .before .before .before .planned .ensures .1)) in omega (arith, n .seat)
+
+array-set-from-places : tie.Need-array-set-from-places Inv-loop μ-loop
+array-set-from-places c = let n = (rw (c .before .before .before .before .before .before .before .before .before .before .before .plan .given .1) at (c .before .before .before .before .before .before .before .before .before .before .before .before .before .planned .ensures .1)) in omega (arith, n .seat)
+
+loop-less-2 : tie.Need-loop-less-2 Inv-loop μ-loop
+loop-less-2 c = let m = c .before .before .before .before .before .before .before .before .before .before .before .before .before .before .before .before .before .before .before .before .before .before .before .before .before .before .before .before .before .before .before .before .before .before .before .before .before in turn-less _ _ _ _ _ (m .before .before .before .before .loop .inv) (m .before .reach .given .0 .0) (reaches m)
+
+loop-again-2 : tie.Need-loop-again-2 Inv-loop μ-loop
+loop-again-2 c =
+    let k = c .before .before .before .before .before .before .before .before .before .before .before .before .before in
+    let m = c .before .before .before .before .before .before .before .before .before .before .before .before .before .before .before .before .before .before .before .before .before .before .before .before .before .before .before .before .before .before .before .before .before .before .before .before .before in
+    let q = c .before .before .before .before .before .before .before .before .before .before .before .before .before .before .before .before .before .before .before .before .before .before .before .before .before .before .before .before .before .before .before .before .before .before .before in
+    let n = c .before .before .before .before .before .before .before .before .before .before .before .plan .given .0 .0 in
+    let h = (rw (c .before .before .before .before .before .before .before .before .before .before .before .plan .given .1) at (c .before .before .before .before .before .before .before .before .before .before .before .before .before .planned .ensures .1)) .seat in
+    turn-on _ _ _ _ _ (c .before .before .before .before .before .before .before .before .before .before .before .before .before .before .before .before .before .before .before .before .before .before .before .before .before .before .before .before .before .before .before .before .before .before .before .before .before .before .before .before .before .loop .inv) (m .before .reach .given .0 .0) (reaches m) (q .decode .result) _ (m .before .before .before .before .before .before .before .before .before .before .before .before .before .before .before .before .market-of .ensures) (q .decode .ensures .0) (record { book = _; answer = 0 })
+    (rw (c .counted .ensures ∙ ap (λ (p : Place). restanding p (countedIf (n .lost) (p .standing))) (sees k .place h), c .before .before .before .before .before .before .before .before .before .no-order .ensures)
+    (stores-step (state k) _ (k .before .before .before .before .before .before .before .before .before .before .before .before .before .before .before .before .before .before .before .seat-of .result) n _ (λ w. (rw (c .before .before .before .before .before .before .before .before .before .before .before .plan .given .1) at (plans k w)) _ (c .before .before .mirror .ensures))))
+
+enum-told-4 : tie.Need-enum-told-4 Inv-loop μ-loop
+enum-told-4 c = search needs
+
+book-of-requires-3 : tie.Need-book-of-requires-3 Inv-loop μ-loop
+book-of-requires-3 c κs = search needs
+
+step-requires : tie.Need-step-requires Inv-loop μ-loop
+step-requires c κs = search needs
+
+loop-less-3 : tie.Need-loop-less-3 Inv-loop μ-loop
+loop-less-3 c = let m = c .before .before .before .before .before .before .before .before .before .before .before .before .before .before .before .before .before .before .before .before .before .before .before .before .before .before .before .before .before .before .before .before .before .before .before .before .before .before .before .before in turn-less _ _ _ _ _ (m .before .before .before .before .loop .inv) (m .before .reach .given .0 .0) (reaches m)
+
+loop-again-3 : tie.Need-loop-again-3 Inv-loop μ-loop
+loop-again-3 c =
+    let k = c .before .before .before .before .before .before .before .before .before .before .before .before .before .before .before .before in
+    let m = c .before .before .before .before .before .before .before .before .before .before .before .before .before .before .before .before .before .before .before .before .before .before .before .before .before .before .before .before .before .before .before .before .before .before .before .before .before .before .before .before in
+    let q = c .before .before .before .before .before .before .before .before .before .before .before .before .before .before .before .before .before .before .before .before .before .before .before .before .before .before .before .before .before .before .before .before .before .before .before .before .before .before in
+    turn-on _ _ _ _ _ (c .before .before .before .before .before .before .before .before .before .before .before .before .before .before .before .before .before .before .before .before .before .before .before .before .before .before .before .before .before .before .before .before .before .before .before .before .before .before .before .before .before .before .before .before .loop .inv) (m .before .reach .given .0 .0) (reaches m) (q .decode .result) _ (m .before .before .before .before .before .before .before .before .before .before .before .before .before .before .before .before .market-of .ensures) (q .decode .ensures .0) (record { book = _; answer = _ })
+    (rw (c .before .before .before .before .before .before .before .before .before .before .before .before .before .book-of3 .ensures) at (c .before .before .before .before .before .before .before .before .before .before .before .before .step .ensures .0))
 
 pub run-spec : {M : Type 1} → statement M
 run-spec =
-    tie.close (tie.spec Inv-loop μ-loop loop-holds apply-requires loop-less loop-again returns)
+    tie.close
+    (tie.spec
+    Inv-loop
+    μ-loop
+    market-of-requires
+    loop-holds
+    reach-at-requires
+    enum-told
+    book-of-requires
+    returns
+    enum-told-2
+    book-of-requires-2
+    returns-2
+    enum-known-reach
+    add-end
+    sub-decode
+    part-decode-start
+    part-decode-end
+    decode-requires
+    hear-requires
+    seat-of-requires
+    spot-requires
+    mul-p
+    array-copy-out-p
+    due-of-requires
+    change-in-requires
+    looked-requires
+    spot-requires-2
+    mul-x
+    array-copy-out-x
+    deal-in-requires
+    decided-requires
+    spot-requires-3
+    mul-y
+    array-copy-out-y
+    planned-requires
+    enum-told-3
+    loop-less
+    loop-again
+    enum-known-plan
+    no-order-requires
+    mul-orders
+    array-set-from-orders
+    mul-orders-2
+    array-set-from-orders-2
+    mirror-requires
+    mul-trades
+    array-set-from-trades
+    mul-tickets
+    array-write-tickets
+    counted-requires
+    mul-places
+    array-set-from-places
+    loop-less-2
+    loop-again-2
+    enum-told-4
+    book-of-requires-3
+    step-requires
+    loop-less-3
+    loop-again-3)

@@ -1,6 +1,8 @@
 -- The verdict is the rule's, and settling it is the promise.
-use Rattle.orders.proofs.Finding.{looked-at}
-use Rattle.orders.proofs.Sizes.{sized, searchable}
+use native.Mathlib.Omega.{arith}
+use Rattle.places.proofs.Landing.{spot-within}
+use Rattle.orders.specs.State.{ordersEach}
+use Rattle.orders.proofs.Finding.{searchable, looked-at}
 use Rattle.orders.proofs.Storing.{changes, changes-nothing}
 use borrow.Author.Needs.{needs}
 use Rattle.orders.proofs.Orders.change.Statement.{statement}
@@ -9,29 +11,20 @@ use Rattle.orders.proofs.Orders.change.Tie as tie
 returns : tie.Need-returns
 returns c = changes-nothing _ _ _ (c .if1 .taken)
 
-number-in-requires : tie.Need-number-in-requires
-number-in-requires c κs = search needs
+looked-requires : tie.Need-looked-requires
+looked-requires c κs = search needs
 
-find-requires : tie.Need-find-requires
-find-requires c κs = search needs
-
-mul-at : tie.Need-mul-at
-mul-at c = search needs
-
-place-or-first-requires : tie.Need-place-or-first-requires
-place-or-first-requires c κs = search needs
-
-add-at : tie.Need-add-at
-add-at c = search needs
+spot-requires : tie.Need-spot-requires
+spot-requires c κs = search needs
 
 mul-x : tie.Need-mul-x
-mul-x c = search needs
+mul-x c = let s = c .before .before .before .before .before .before .before in omega (arith, c .spot .ensures, spot-within ordersEach (s .args .k) (c .before .looked .result) (omega arith))
 
 element-copy-out-x : tie.Need-element-copy-out-x
-element-copy-out-x c = search needs
+element-copy-out-x c = let s = c .before .before .before .before .before .before .before in omega (arith, c .spot .ensures, spot-within ordersEach (s .args .k) (c .before .looked .result) (omega arith))
 
-judge-requires : tie.Need-judge-requires
-judge-requires c κs = search needs
+judged-requires : tie.Need-judged-requires
+judged-requires c κs = search needs
 
 settle-requires : tie.Need-settle-requires
 settle-requires c κs = search needs
@@ -39,26 +32,22 @@ settle-requires c κs = search needs
 returns-2 : tie.Need-returns-2
 returns-2 c =
     let f = c .before .before .before .before .before .before .before .before in
-    let h = f .before .before .before .before .before .before .if1 .left in
-    let s = f .before .before .before .before .before .before .before in
+    let h = f .before .before .before .before .before .if1 .left in
+    let s = f .before .before .before .before .before .before in
     let b = s .args .t1 in
     rw (c .settle .ensures)
-    (changes b _ _ _ _ (sized b _ (s .good .0)) h (λ w.
-    c .before .judge .ensures _ (searchable b _ (s .good .0) _ h w) (rw (f .before .before .before .before .before .number-in .ensures) at (f .find .ensures _ (w .mirrored) (w .near _ h)))
-    (λ g. rw (c .before .before .before .before .before .before .before .place-or-first .ensures .0) (looked-at (b .places) _ _ g))))
+    (changes b _ _ _ _ h (λ w.
+    c .before .judged .ensures _ h (searchable b _ h w) (f .looked .ensures _ h (searchable b _ h w)) (rw (c .before .before .before .before .before .before .before .spot .ensures) (looked-at (b .places) _ _ h))))
 
 pub change-spec : {M : Type 1} → statement M
 change-spec =
     tie.close
     (tie.spec
     returns
-    number-in-requires
-    find-requires
-    mul-at
-    place-or-first-requires
-    add-at
+    looked-requires
+    spot-requires
     mul-x
     element-copy-out-x
-    judge-requires
+    judged-requires
     settle-requires
     returns-2)

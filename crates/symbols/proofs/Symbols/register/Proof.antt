@@ -1,5 +1,6 @@
 -- Each refusal is its clause of the rule, and what is stored at the first empty place makes the new symbol.
 use mathlib.Core.Path.{sym, _∙_}
+use native.Mathlib.Numerals.{add-one}
 use native.Mathlib.Omega.{arith}
 use denote.Ref.{now}
 use Rattle.symbols.proofs.Sizes.{places-size}
@@ -38,10 +39,19 @@ mul-p c = search needs
 element-set-from-p : tie.Need-element-set-from-p
 element-set-from-p c = search needs
 
+add-self : tie.Need-add-self
+add-self c = search needs
+
+mul-self : tie.Need-mul-self
+mul-self c = search needs
+
+element-write-self : tie.Need-element-write-self
+element-write-self c = search needs
+
 returns-5 : tie.Need-returns-5
 returns-5 c =
     let s = c .before .before .before .before .before .before .before .before .before in
-    rw (c .padded-name .ensures)
+    rw (c .padded-name .ensures, add-one)
     (enters (s .args .t1) (s .args .index) (now (s .args .name)) (s .args .scale) (c .before .before .before .before .before .before .before .if1 .left) (sym (c .before .before .before .before .before .before .name-bad .ensures) ∙ c .before .before .before .before .before .if2 .left) (omega (arith, c .before .before .before .before .place-of .ensures)) _ (c .before .before .vacancy .ensures) (c .before .if4 .left) (places-size (s .args .t1) _ (s .good .0)))
 
 pub register-spec : {M : Type 1} → statement M
@@ -58,4 +68,7 @@ register-spec =
     padded-name-requires
     mul-p
     element-set-from-p
+    add-self
+    mul-self
+    element-write-self
     returns-5)

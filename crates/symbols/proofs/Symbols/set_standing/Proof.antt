@@ -21,7 +21,7 @@ element-set-from-p : tie.Need-element-set-from-p
 element-set-from-p c = search needs
 
 returns-2 : tie.Need-returns-2
-returns-2 c = let s = c .before .before in stands (s .args .t1) (s .args .k) (s .args .s) (c .before .if1 .left) (places-size (s .args .t1) _ (s .good .0))
+returns-2 c = let s = c .before .before in stands (s .args .t1) (s .args .k) (λ t. s .args .s) (c .before .if1 .left) (places-size (s .args .t1) _ (s .good .0))
 
 pub set-standing-spec : {M : Type 1} → statement M
 set-standing-spec =
