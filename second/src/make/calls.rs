@@ -7,6 +7,7 @@ use super::homes;
 use super::outputs;
 use super::random::Random;
 use super::registers;
+use super::twice;
 use crate::probe::LARGEST_FILE;
 use crate::reader::SYMBOLS;
 use crate::wire::write::to_bytes;
@@ -19,28 +20,35 @@ pub enum CallKind {
     Edges,
     Mixed,
     Homes,
+    Twice,
 }
 
 /// The kinds by name.
-pub const CALL_KINDS: [(&str, CallKind); 6] = [
+pub const CALL_KINDS: [(&str, CallKind); 7] = [
     ("plain", CallKind::Plain),
     ("faults", CallKind::Faults),
     ("full", CallKind::Full),
     ("edges", CallKind::Edges),
     ("mixed", CallKind::Mixed),
     ("homes", CallKind::Homes),
+    ("twice", CallKind::Twice),
 ];
 
 /// How many of the kinds, from the first on, a mixed list is mixed from.
 const MIXED: usize = 4;
 
-/// A file of `count` calls, or fewer where they would make it too long for the probe.
+/// A file of `count` calls, of the kind `twice` of `count` messages, or of fewer where they would make
+/// it too long for the probe.
 pub fn calls(seed: u64, kind: CallKind, count: usize) -> Vec<u8> {
     list(seed, kind, count).into_bytes()
 }
 
 pub(super) fn list(seed: u64, kind: CallKind, count: usize) -> CallList {
-    let mut maker = Maker::new(Random::new(seed, &format!("calls {kind:?}")));
+    let random = Random::new(seed, &format!("calls {kind:?}"));
+    if kind == CallKind::Twice {
+        return twice::list(random, count);
+    }
+    let mut maker = Maker::new(random);
     let with_faults = matches!(kind, CallKind::Faults | CallKind::Mixed);
     maker.any_market = with_faults;
     if maker.any_market {
@@ -183,12 +191,15 @@ mod tests {
     use crate::probe::{probe, LARGEST_FILE};
     use std::collections::HashSet;
 
+    /// Messages, which one by one are as many steps, are counted in lists of the kind `twice`.
     #[test]
     fn a_seed_gives_one_list_of_as_many_calls() {
         for (name, kind) in CALL_KINDS {
             let bytes = calls(3, kind, 200);
             assert!(bytes == calls(3, kind, 200), "{name} differs");
-            assert_eq!(probe(&bytes).lines().count(), 200, "{name}");
+            let text = probe(&bytes);
+            let counted = |line: &&str| kind != CallKind::Twice || line.starts_with("S,");
+            assert_eq!(text.lines().filter(counted).count(), 200, "{name}");
         }
     }
 

@@ -40,7 +40,7 @@ pub struct Draw {
     pub edges: bool,
     /// The market whose conditions are drawn.
     pub market: Market,
-    /// The order numbers that are drawn, where they are to be of few families.
+    /// The order numbers that are drawn, where they are to be of few families or of an exchange.
     pub pool: Option<Pool>,
 }
 

@@ -34,8 +34,8 @@ impl Family {
     }
 }
 
-/// Members of a few families. Together they are some more than a book has room for, so that numbers
-/// come again.
+/// Order numbers to draw from, mostly members of a few families. They are some more than a book has
+/// room for, so that numbers come again.
 #[derive(Clone, Debug)]
 pub struct Pool {
     orders: Vec<u64>,
@@ -63,6 +63,15 @@ impl Pool {
             orders.extend([0, u64::MAX]);
         }
         Pool { orders }
+    }
+
+    /// Numbers that follow each other, as an exchange gives them.
+    pub fn of_an_exchange(random: &mut Random) -> Pool {
+        let first = random.u64() >> random.pick(&[1, 16, 32, 56]);
+        let count = 3 * LIVE_ORDERS as u64;
+        Pool {
+            orders: (first..first + count).collect(),
+        }
     }
 
     pub fn order(&self, random: &mut Random) -> u64 {
@@ -145,6 +154,15 @@ mod tests {
             assert!(orders.len() > LIVE_ORDERS, "{seed}");
             let families: HashSet<_> = orders.iter().map(|it| Family::of_order(*it)).collect();
             assert!((2..=4).contains(&families.len()), "{seed}");
+        }
+    }
+
+    #[test]
+    fn an_exchange_s_numbers_follow_each_other() {
+        for seed in 0..100 {
+            let orders = Pool::of_an_exchange(&mut Random::new(seed, "pool")).orders;
+            assert!(orders.len() > LIVE_ORDERS, "{seed}");
+            assert!(orders.windows(2).all(|two| two[1] == two[0] + 1), "{seed}");
         }
     }
 

@@ -72,7 +72,7 @@ fn at_the_brim(maker: &mut Maker, index: u32) {
 fn fill_record(maker: &mut Maker, index: u32) {
     let mut bytes = Vec::new();
     for _ in maker.source.kept(index).len()..KEPT_TRADES {
-        let body = trade_body(maker);
+        let body = maker.source.printed_trade_body();
         push_body(maker, index, body, &mut bytes);
     }
     maker.run(&bytes);
@@ -87,21 +87,11 @@ fn fill_record_past(maker: &mut Maker, index: u32) {
         let body = match maker.random().below(3) {
             0 => maker.source.other_body(index),
             1 => maker.source.cancel_body(index),
-            _ => trade_body(maker),
+            _ => maker.source.printed_trade_body(),
         };
         push_body(maker, index, body, &mut bytes);
         maker.step(&bytes);
         maker.list.volume(index);
-    }
-}
-
-fn trade_body(maker: &mut Maker) -> Body {
-    Body::Trade {
-        trade: maker.random().u32(),
-        price: maker.source.draw.price(b'B'),
-        volume: maker.source.draw.volume(),
-        printable: 1,
-        conditions: maker.source.draw.conditions(),
     }
 }
 

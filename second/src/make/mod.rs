@@ -19,3 +19,4 @@ pub mod random;
 mod registers;
 pub(crate) mod source;
 mod strays;
+mod twice;

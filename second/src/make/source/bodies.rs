@@ -113,6 +113,17 @@ impl Source {
         }
     }
 
+    /// A trade that is printed. Its number is most likely not kept.
+    pub fn printed_trade_body(&mut self) -> Body {
+        Body::Trade {
+            trade: self.draw.random.u32(),
+            price: self.draw.price(b'B'),
+            volume: self.draw.volume(),
+            printable: 1,
+            conditions: self.draw.conditions(),
+        }
+    }
+
     /// A type that changes no order.
     pub fn other_body(&mut self, index: u32) -> Body {
         match self.draw.random.below(9) {
