@@ -59,7 +59,7 @@ fn reserved(cases: &mut Cases) {
         one[place] = 0xFF;
         bytes.push(one);
     }
-    cases.feed_bytes("reserved-bytes-are-dropped", bytes.concat());
+    cases.fed("reserved-bytes-are-dropped", bytes.concat());
     cases.calls_on_abc("reserved-bytes-are-written-as-0", |calls| {
         for one in &bytes {
             calls.write(1, one.len(), one);
@@ -86,22 +86,22 @@ fn flags(cases: &mut Cases) {
         bytes[39 + 32] = flag;
         bytes[39 + 35 + 36] = flag;
         bytes[39 + 35 + 42 + 28] = flag;
-        cases.feed_bytes(&format!("flags-of-{flag}"), bytes);
+        cases.fed(&format!("flags-of-{flag}"), bytes);
     }
     for side in [0, b'A', b'b', b's', 0xFF] {
-        cases.feed(
+        cases.fed(
             &format!("side-of-{side}"),
-            &[
+            feed(&[
                 add(1, 1, side, 1000, 10),
                 add(1, 1, BUY, 1000, 10),
                 modify(2, 1, side, 1000, 20),
                 replace(2, 1, 2, side, 1000, 20),
-            ],
+            ]),
         );
     }
-    cases.feed(
+    cases.fed(
         "volume-0",
-        &[
+        feed(&[
             add(1, 1, BUY, 1000, 0),
             add(1, 1, BUY, 1000, 10),
             modify(2, 1, BUY, 1000, 0),
@@ -111,7 +111,7 @@ fn flags(cases: &mut Cases) {
             cross(2, 1, 1000, 0),
             correction(3, 1, 0),
             cross(4, 2, 0, 0),
-        ],
+        ]),
     );
 }
 
@@ -128,9 +128,9 @@ fn sizes(cases: &mut Cases) {
         least.extend([4, 0]);
         least.extend(message.kind().to_le_bytes());
     }
-    cases.feed_bytes("one-byte-too-few-in-each", short);
-    cases.feed_bytes("one-byte-too-many-in-each", long);
-    cases.feed_bytes("size-4-in-each", least);
+    cases.fed("one-byte-too-few-in-each", short);
+    cases.fed("one-byte-too-many-in-each", long);
+    cases.fed("size-4-in-each", least);
     for (name, size) in [
         ("types-outside-the-table", 39_u16),
         ("types-outside-of-4-bytes", 4),
@@ -144,7 +144,7 @@ fn sizes(cases: &mut Cases) {
             bytes.extend(one);
         }
         bytes.extend(feed(&[add(1, 1, BUY, 1000, 10)]));
-        cases.feed_bytes(name, bytes);
+        cases.fed(name, bytes);
     }
 }
 

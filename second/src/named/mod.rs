@@ -15,6 +15,7 @@ mod page;
 mod printout;
 mod record;
 mod registering;
+mod runs;
 mod script;
 mod stream;
 
@@ -48,6 +49,7 @@ impl Cases {
         registering::add_to(&mut cases);
         page::add_to(&mut cases);
         stream::add_to(&mut cases);
+        runs::add_to(&mut cases);
         cases
     }
 
@@ -73,6 +75,21 @@ impl Cases {
         self.files.push((format!("{name}.feed"), bytes));
     }
 
+    /// The bytes as a feed, and at once.
+    fn fed(&mut self, name: &str, bytes: Vec<u8>) {
+        self.bytes_at_once(name, &bytes);
+        self.feed_bytes(name, bytes);
+    }
+
+    /// The messages in one run: request M-110.
+    fn at_once(&mut self, name: &str, messages: &[Message]) {
+        self.bytes_at_once(name, &feed(messages));
+    }
+
+    fn bytes_at_once(&mut self, name: &str, bytes: &[u8]) {
+        self.calls_on_abc(&format!("{name}-at-once"), |calls| calls.run(0, bytes));
+    }
+
     fn calls(&mut self, name: &str, make: impl FnOnce(&mut CallList)) {
         let mut calls = CallList::new();
         make(&mut calls);
@@ -80,9 +97,10 @@ impl Cases {
             .push((format!("{name}.calls"), calls.into_bytes()));
     }
 
-    /// The messages as a feed, and each of them read and applied.
+    /// The messages as a feed, each of them read and applied, and all of them at once.
     fn read_and_applied(&mut self, name: &str, messages: &[Message]) {
         self.feed(name, messages);
+        self.at_once(name, messages);
         self.calls_on_abc(name, |calls| {
             for message in messages {
                 let bytes = feed(&[*message]);
@@ -102,9 +120,10 @@ impl Cases {
         });
     }
 
-    /// The messages as a feed, and as steps with the quote and volume after each.
+    /// The messages as a feed, as steps with the quote and volume after each, and at once.
     fn both(&mut self, name: &str, messages: &[Message]) {
         self.feed(name, messages);
+        self.at_once(name, messages);
         self.calls(name, |calls| {
             calls.register(ABC, 4, b"ABC");
             for message in messages {
@@ -120,6 +139,7 @@ impl Cases {
 mod tests {
     use super::fields::one_of_each;
     use super::Cases;
+    use crate::probe::probe;
     use crate::wire::Market;
     use std::collections::HashSet;
 
@@ -128,6 +148,27 @@ mod tests {
         let cases = Cases::all();
         let names: HashSet<_> = cases.files.iter().map(|(name, _)| name).collect();
         assert_eq!(names.len(), cases.files.len());
+    }
+
+    /// Quote and volume at the end, where a case has a list of its messages one by one too.
+    #[test]
+    fn at_once_ends_as_one_by_one() {
+        let cases = Cases::all();
+        let end = |file: &str| {
+            let text = probe(cases.file(file)?);
+            let lines: Vec<String> = text.lines().map(String::from).collect();
+            Some(lines[lines.len() - 2..].to_vec())
+        };
+        let mut count = 0;
+        for (file, _) in &cases.files {
+            if let Some(name) = file.strip_suffix("-at-once.calls") {
+                if let Some(one_by_one) = end(&format!("{name}.calls")) {
+                    assert_eq!(end(file), Some(one_by_one), "{name}");
+                    count += 1;
+                }
+            }
+        }
+        assert!(count > 80, "{count}");
     }
 
     /// The cases are made of messages like these, and spoil what they mean to.

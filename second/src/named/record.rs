@@ -1,7 +1,6 @@
 //! Corners of the trade record. The program does not print it, so these are calls of the probe.
 
 use super::Cases;
-use crate::make::call_list::CallList;
 use crate::make::messages::*;
 use crate::wire::Message;
 
@@ -12,12 +11,24 @@ fn trades(from: u32, count: u32) -> Vec<Message> {
         .collect()
 }
 
-/// A step for each message, with the volume after it.
-fn told(calls: &mut CallList, messages: &[Message]) {
-    for message in messages {
-        calls.step_messages(&[*message]);
-        calls.volume(ABC);
-    }
+/// Some trades in a run, then a step for each message with the volume after it; and all at once.
+fn told_after(cases: &mut Cases, name: &str, trades: &[Message], messages: &[Message]) {
+    cases.at_once(name, &[trades, messages].concat());
+    cases.calls_on_abc(name, |calls| {
+        if !trades.is_empty() {
+            calls.run_messages(trades);
+            calls.volume(ABC);
+        }
+        for message in messages {
+            calls.step_messages(&[*message]);
+            calls.volume(ABC);
+        }
+    });
+}
+
+/// The same without trades before.
+fn told(cases: &mut Cases, name: &str, messages: &[Message]) {
+    told_after(cases, name, &[], messages);
 }
 
 pub fn add_to(cases: &mut Cases) {
@@ -47,131 +58,145 @@ fn capacity(cases: &mut Cases) {
         calls.run_messages(&trades(1, 129));
         calls.quote(ABC);
     });
-    cases.calls_on_abc("a-full-record", |calls| {
-        calls.run_messages(&trades(1, 128));
-        calls.volume(ABC);
-        told(
-            calls,
-            &[
-                trade(129, 500, 7, 0),
-                add(130, 1, BUY, 1000, 10),
-                execute(131, 1, 1000, 3),
-                print_execute(132, 1, 501, 1000, 3),
-                cancel(133, 64),
-                trade(134, 502, 9, 1),
-                trade(135, 503, 9, 1),
-            ],
+    cases.calls_on_abc("129-trades-one-by-one", |calls| {
+        calls.step_messages(&trades(1, 129));
+    });
+    for count in [127, 128, 129] {
+        told_after(
+            cases,
+            &format!("{count}-trades-and-two-cancels"),
+            &trades(1, count),
+            &[cancel(count + 1, 1), cancel(count + 2, count)],
         );
-    });
-    cases.calls_on_abc("a-repeated-number-in-a-full-record", |calls| {
-        calls.run_messages(&trades(1, 128));
-        told(calls, &[trade(129, 1, 7, 1)]);
-    });
-    cases.calls_on_abc("room-for-a-trade-again", |calls| {
-        calls.run_messages(&trades(1, 128));
-        told(
-            calls,
-            &[cancel(129, 1), trade(130, 1, 1000, 1), cancel(131, 128)],
-        );
-    });
+    }
+    told_after(
+        cases,
+        "a-full-record",
+        &trades(1, 128),
+        &[
+            trade(129, 500, 7, 0),
+            add(130, 1, BUY, 1000, 10),
+            execute(131, 1, 1000, 3),
+            print_execute(132, 1, 501, 1000, 3),
+            cancel(133, 64),
+            trade(134, 502, 9, 1),
+            trade(135, 503, 9, 1),
+        ],
+    );
+    told_after(
+        cases,
+        "a-repeated-number-in-a-full-record",
+        &trades(1, 128),
+        &[trade(129, 1, 7, 1)],
+    );
+    told_after(
+        cases,
+        "room-for-a-trade-again",
+        &trades(1, 128),
+        &[cancel(129, 1), trade(130, 1, 1000, 1), cancel(131, 128)],
+    );
 }
 
 fn marks(cases: &mut Cases) {
-    cases.calls_on_abc("the-mark-goes-with-a-gap", |calls| {
-        told(calls, &[trade(1, 1, 5, 1), retail(3), clear(2), retail(2)]);
-    });
-    cases.calls_on_abc("the-mark-goes-with-a-misfit", |calls| {
-        told(calls, &[trade(1, 1, 5, 1), delete(2, 9), clear(2)]);
-    });
-    cases.calls_on_abc("the-mark-stays-at-a-low-number", |calls| {
-        told(calls, &[trade(1, 1, 5, 1), retail(1), retail(0), retail(2)]);
-    });
+    told(
+        cases,
+        "the-mark-goes-with-a-gap",
+        &[trade(1, 1, 5, 1), retail(3), clear(2), retail(2)],
+    );
+    told(
+        cases,
+        "the-mark-goes-with-a-misfit",
+        &[trade(1, 1, 5, 1), delete(2, 9), clear(2)],
+    );
+    told(
+        cases,
+        "the-mark-stays-at-a-low-number",
+        &[trade(1, 1, 5, 1), retail(1), retail(0), retail(2)],
+    );
     for next in [1, 2, 3] {
-        cases.calls_on_abc(&format!("the-mark-at-a-clear-to-{next}"), |calls| {
-            told(
-                calls,
-                &[trade(1, 1, 5, 1), clear(next), trade(next, 2, 6, 1)],
-            );
-        });
+        told(
+            cases,
+            &format!("the-mark-at-a-clear-to-{next}"),
+            &[trade(1, 1, 5, 1), clear(next), trade(next, 2, 6, 1)],
+        );
     }
-    cases.calls_on_abc("the-mark-past-the-last-number", |calls| {
-        told(
-            calls,
-            &[clear(u32::MAX), retail(u32::MAX), clear(0), clear(0)],
-        );
-    });
-    cases.calls_on_abc("still-recording-without-the-mark", |calls| {
-        told(
-            calls,
-            &[
-                cancel(1, 9),
-                trade(2, 9, 5, 1),
-                trade(3, 10, 6, 1),
-                cancel(4, 9),
-                retail(9),
-                trade(5, 11, 7, 1),
-                clear(5),
-                trade(5, 11, 7, 1),
-            ],
-        );
-    });
+    told(
+        cases,
+        "the-mark-past-the-last-number",
+        &[clear(u32::MAX), retail(u32::MAX), clear(0), clear(0)],
+    );
+    told(
+        cases,
+        "still-recording-without-the-mark",
+        &[
+            cancel(1, 9),
+            trade(2, 9, 5, 1),
+            trade(3, 10, 6, 1),
+            cancel(4, 9),
+            retail(9),
+            trade(5, 11, 7, 1),
+            clear(5),
+            trade(5, 11, 7, 1),
+        ],
+    );
 }
 
 fn kinds(cases: &mut Cases) {
-    cases.calls_on_abc("a-cancel-of-a-trade-not-printed", |calls| {
-        told(
-            calls,
-            &[trade(1, 1, 5, 0), cancel(2, 1), add(3, 1, BUY, 1000, 10)],
-        );
-    });
-    cases.calls_on_abc("a-cancel-twice", |calls| {
-        told(calls, &[trade(1, 1, 5, 1), cancel(2, 1), cancel(3, 1)]);
-    });
-    cases.calls_on_abc("a-removed-number-is-recorded-again", |calls| {
-        told(calls, &[trade(1, 1, 5, 1), cancel(2, 1), trade(3, 1, 6, 1)]);
-    });
-    cases.calls_on_abc("a-repeated-trade-number", |calls| {
-        told(calls, &[trade(1, 1, 5, 1), trade(2, 1, 6, 1), cancel(3, 1)]);
-    });
-    cases.calls_on_abc("executions-and-trades-share-numbers", |calls| {
-        told(
-            calls,
-            &[
-                add(1, 1, BUY, 1000, 10),
-                print_execute(2, 1, 0, 900, 4),
-                trade(3, 0, 6, 1),
-                cancel(4, 0),
-            ],
-        );
-    });
-    cases.calls_on_abc("an-execution-that-does-not-fit", |calls| {
-        told(
-            calls,
-            &[add(1, 1, BUY, 1000, 10), print_execute(2, 1, 5, 900, 11)],
-        );
-    });
-    cases.calls_on_abc("crosses-record-nothing", |calls| {
-        told(
-            calls,
-            &[
-                cross(1, 1, 1000, 500),
-                correction(2, 1, 400),
-                correction(3, 77, 1),
-                cross(4, 1, 1000, 500),
-                cancel(5, 1),
-            ],
-        );
-    });
-    cases.calls_on_abc("trade-numbers-0-and-all-ones", |calls| {
-        told(
-            calls,
-            &[
-                trade(1, 0, 5, 1),
-                trade(2, u32::MAX, 6, 1),
-                cancel(3, 0),
-                cancel(4, u32::MAX),
-                cancel(5, 0),
-            ],
-        );
-    });
+    told(
+        cases,
+        "a-cancel-of-a-trade-not-printed",
+        &[trade(1, 1, 5, 0), cancel(2, 1), add(3, 1, BUY, 1000, 10)],
+    );
+    told(
+        cases,
+        "a-cancel-twice",
+        &[trade(1, 1, 5, 1), cancel(2, 1), cancel(3, 1)],
+    );
+    told(
+        cases,
+        "a-removed-number-is-recorded-again",
+        &[trade(1, 1, 5, 1), cancel(2, 1), trade(3, 1, 6, 1)],
+    );
+    told(
+        cases,
+        "a-repeated-trade-number",
+        &[trade(1, 1, 5, 1), trade(2, 1, 6, 1), cancel(3, 1)],
+    );
+    told(
+        cases,
+        "executions-and-trades-share-numbers",
+        &[
+            add(1, 1, BUY, 1000, 10),
+            print_execute(2, 1, 0, 900, 4),
+            trade(3, 0, 6, 1),
+            cancel(4, 0),
+        ],
+    );
+    told(
+        cases,
+        "an-execution-that-does-not-fit",
+        &[add(1, 1, BUY, 1000, 10), print_execute(2, 1, 5, 900, 11)],
+    );
+    told(
+        cases,
+        "crosses-record-nothing",
+        &[
+            cross(1, 1, 1000, 500),
+            correction(2, 1, 400),
+            correction(3, 77, 1),
+            cross(4, 1, 1000, 500),
+            cancel(5, 1),
+        ],
+    );
+    told(
+        cases,
+        "trade-numbers-0-and-all-ones",
+        &[
+            trade(1, 0, 5, 1),
+            trade(2, u32::MAX, 6, 1),
+            cancel(3, 0),
+            cancel(4, u32::MAX),
+            cancel(5, 0),
+        ],
+    );
 }

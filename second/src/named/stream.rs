@@ -2,6 +2,7 @@
 
 use super::Cases;
 use crate::make::messages::*;
+use crate::wire::write::to_bytes;
 
 pub fn add_to(cases: &mut Cases) {
     positions(cases);
@@ -74,21 +75,27 @@ fn runs(cases: &mut Cases) {
             calls.run(39, &[&good, end].concat());
         });
     }
+    let mut passed_over = vec![vec![4, 0, 0xE7, 3], vec![5, 0, 100, 0, 1]];
+    let messages = [
+        add(1, 1, 0, 1, 1),
+        on(8, retail(1)),
+        retail(0),
+        retail(1),
+        retail(3),
+        retail(2),
+        clear(2),
+        delete(2, 1),
+        clear(2),
+        add(2, 1, SELL, 5, 5),
+    ];
+    passed_over.extend(messages.iter().map(to_bytes));
     cases.calls_on_abc("a-run-passes-over-every-other-answer", |calls| {
-        let mut bytes = vec![4, 0, 0xE7, 3, 5, 0, 100, 0, 1];
-        bytes.extend(feed(&[
-            add(1, 1, 0, 1, 1),
-            on(8, retail(1)),
-            retail(0),
-            retail(1),
-            retail(3),
-            retail(2),
-            clear(2),
-            delete(2, 1),
-            clear(2),
-            add(2, 1, SELL, 5, 5),
-        ]));
-        calls.run(0, &bytes);
+        calls.run(0, &passed_over.concat());
+    });
+    cases.calls_on_abc("every-other-answer-one-by-one", |calls| {
+        for bytes in &passed_over {
+            calls.step(0, bytes);
+        }
     });
     cases.calls_on_abc("a-run-of-65535-bytes", |calls| {
         let mut bytes = [4, 0, 0xE7, 3].repeat(16_380);
