@@ -128,10 +128,11 @@ Q,0.0900,4,0.3000,3
 }
 
 /// An order is replaced by itself, and another by a new one; when the first is deleted there is room
-/// for the number that went, and the new one is replaced again.
+/// for the number that went, and the new one is replaced again. Where a third is executed there is
+/// room for it again.
 #[test]
 fn replaces_in_a_full_book_amid_a_run() {
-    let end = "Q,0,2000,19,,\nV,0,0,1\n";
+    let end = "Q,0,2000,30,,\nV,0,0,1\n";
     let name = "replaces-in-a-full-book-amid-a-run";
     let steps = format!(
         "\
@@ -139,11 +140,13 @@ fn replaces_in_a_full_book_amid_a_run() {
 S,0,42\nQ,0,2000,15,,\nV,0,0,1
 S,0,25\nQ,0,2000,8,,\nV,0,0,1
 S,0,39\nQ,0,2000,17,,\nV,0,0,1
-S,0,42\n{end}"
+S,0,42\nQ,0,2000,19,,\nV,0,0,1
+S,0,42\nQ,0,2000,19,,\nV,0,0,1
+S,0,39\n{end}"
     );
     let text = probed(name);
     assert!(text.ends_with(&steps), "{text}");
-    let run = format!("G,0\nX,1,2686\n{end}");
+    let run = format!("G,0\nX,1,2767\n{end}");
     assert_eq!(probed(&format!("{name}-at-once")), run);
 }
 
@@ -162,7 +165,8 @@ fn orders_go_amid_a_run() {
             ("S,0,42\nS,9,35\n", 77, stale),
             ("S,0,20\nS,9,25\n", 45, stale),
             ("S,0,20\nS,0,39\nS,0,25\n", 84, "Q,0,,,,\nV,0,0,0\n"),
-            ("S,9,42\n", 42, stale),
+            ("S,9,25\n", 25, stale),
+            ("S,0,20\nS,0,39\nS,0,42\nS,9,42\n", 143, stale),
         ],
     );
     assert_eq!(probed("orders-go-amid-a-run"), lines);
@@ -176,20 +180,20 @@ fn trades_up_to_the_room_and_past_it() {
         format!("G,0\n{}Q,0,,,,\nV,0,8256,0\n", "S,0,33\n".repeat(129))
     );
     for (count, kept, volumes, whole) in [
-        (127, 4191, [8128, 8127, 8000], 1),
-        (128, 4224, [8256, 8255, 8127], 1),
-        (129, 4257, [8256, 8255, 8255], 0),
+        (127, 4191, [8128, 8001, 8000], 1),
+        (128, 4224, [8256, 8128, 8127], 1),
+        (129, 4257, [8256, 8256, 8255], 0),
     ] {
         let name = format!("{count}-trades-and-two-cancels");
-        let [filled, first, last] = volumes.map(|volume| format!("V,0,{volume},{whole}\n"));
+        let [filled, first, end] = volumes.map(|volume| format!("V,0,{volume},{whole}\n"));
         assert_eq!(
             probed(&name),
-            format!("G,0\nX,1,{kept}\n{filled}S,0,20\n{first}S,0,20\n{last}Q,0,,,,\n{last}"),
+            format!("G,0\nX,1,{kept}\n{filled}S,0,20\n{first}S,0,20\n{end}Q,0,,,,\n{end}"),
             "{name}"
         );
         assert_eq!(
             probed(&format!("{name}-at-once")),
-            format!("G,0\nX,1,{}\nQ,0,,,,\n{last}", kept + 40),
+            format!("G,0\nX,1,{}\nQ,0,,,,\n{end}", kept + 40),
             "{name}"
         );
     }
@@ -216,19 +220,19 @@ fn the_last_number_amid_a_run() {
     assert_eq!(probed("the-last-number-amid-a-run"), lines);
 }
 
-/// Recorded and cancelled; repeated; cancelled before it comes; beside its neighbours; twice with
-/// only a neighbour cancelled; cancelled twice.
+/// Recorded and cancelled; repeated; cancelled before it comes; beside its neighbours; beside numbers
+/// with one other bit; twice with only a neighbour cancelled; cancelled twice.
 #[test]
 fn trades_at_the_edges_amid_a_run() {
     let (trade, cancel) = ("S,0,33\n", "S,0,20\n");
     let steps = [
-        trade, cancel, trade, trade, cancel, trade, trade, trade, trade, cancel, trade, cancel,
-        trade, cancel, trade, cancel, cancel,
+        trade, cancel, trade, trade, cancel, trade, trade, trade, trade, cancel, trade, trade,
+        trade, cancel, trade, cancel, trade, cancel, trade, cancel, cancel,
     ]
     .concat();
-    let volumes = ["0,1", "5,0", "7,0", "13,1", "5,0", "5,0", "0,0"];
+    let volumes = ["0,1", "5,0", "7,0", "13,1", "13,1", "5,0", "5,0", "0,0"];
     let asked = volumes.map(|volume| format!("Q,0,,,,\nV,0,{volume}\n"));
-    let lines = twice(7, &[(&steps, 470, &asked.concat())]);
+    let lines = twice(8, &[(&steps, 589, &asked.concat())]);
     for edge in ["0", "all-ones"] {
         assert_eq!(probed(&format!("trade-{edge}-amid-a-run")), lines, "{edge}");
     }
@@ -318,27 +322,29 @@ fn an_unregistered_symbol() {
     );
 }
 
-/// ABC alone is registered, then the two others, which are new then; or none is.
+/// ABC alone is registered, then the three others, which are new then; or none is.
 #[test]
-fn unregistered_symbols_at_the_edges() {
-    let none = "Q,5,,,,\nV,5,0,0\n".repeat(2);
+fn symbols_that_are_not_registered_yet() {
+    let none = "Q,5,,,,\nV,5,0,0\n".repeat(3);
     let abc = "Q,0,1000,10,,\nV,0,0,1\n";
-    let new = "Q,0,,,,\nV,0,0,1\n".repeat(2);
-    let lived = "Q,0,7,7,,\nV,0,6,0\n".repeat(2);
-    let life = "S,0,39\nS,0,33\nS,0,20\nS,0,39\n".repeat(2);
-    let unregistered = UNREGISTERED.repeat(2);
+    let new = "Q,0,,,,\nV,0,0,1\n".repeat(3);
+    let lived = "Q,0,7,7,,\nV,0,6,0\n".repeat(3);
+    let life = "S,0,39\nS,0,33\nS,0,20\nS,0,39\n".repeat(3);
+    let unregistered = UNREGISTERED.repeat(3);
     let halves = [
         [
             format!("{unregistered}S,0,39\n"),
             format!("{life}S,6,39\n"),
             format!("{unregistered}S,5,39\n"),
         ],
-        ["X,1,301\n"; 3].map(String::from),
+        ["X,1,432\n"; 3].map(String::from),
     ];
     let lines = halves.clone().map(|[first, second, _]| {
-        format!("N\nG,0\n{first}{abc}{none}G,0\nG,0\n{abc}{new}{second}{abc}{lived}")
+        let registered = "G,0\n".repeat(3);
+        format!("N\nG,0\n{first}{abc}{none}{registered}{abc}{new}{second}{abc}{lived}")
     });
-    assert_eq!(probed("unregistered-0-and-all-ones"), lines.concat());
+    let name = "unregistered-symbols-and-then-registered";
+    assert_eq!(probed(name), lines.concat());
     let lines = halves.map(|[.., all]| format!("N\n{all}Q,5,,,,\nV,5,0,0\n{none}"));
     assert_eq!(probed("no-symbol-at-all"), lines.concat());
 }
@@ -405,6 +411,22 @@ S,0,39\nQ,0,{last}\nV,0,{volume}
             )
         });
         assert_eq!(probed(name), lines.concat(), "{name}");
+    }
+}
+
+/// No type is taken for one of another size; each run goes on behind it.
+#[test]
+fn wrong_sizes_in_runs() {
+    let sizes = [39, 35, 42, 42, 25, 73, 33, 29, 20, 24, 17, 46, 20];
+    let nothing = "Q,0,,,,\nV,0,0,1\n";
+    for (name, sizes) in [
+        ("one-byte-too-few-in-each", sizes.map(|size| size - 1)),
+        ("one-byte-too-many-in-each", sizes.map(|size| size + 1)),
+        ("size-4-in-each", [4; 13]),
+    ] {
+        let runs = sizes.map(|size| format!("X,1,{size}\n{nothing}"));
+        let lines = format!("G,0\n{}{nothing}", runs.concat());
+        assert_eq!(probed(&format!("{name}-in-runs")), lines, "{name}");
     }
 }
 

@@ -116,21 +116,25 @@ fn flags(cases: &mut Cases) {
 }
 
 fn sizes(cases: &mut Cases) {
-    let (mut short, mut long, mut least) = (Vec::new(), Vec::new(), Vec::new());
+    let [mut short, mut long, mut least] = [(); 3].map(|()| Vec::new());
     for message in one_of_each() {
         let size = size_of_type(message.kind()).unwrap_or(0) as u16;
         let mut bytes = feed(&[message]);
         bytes[..2].copy_from_slice(&(size - 1).to_le_bytes());
-        short.extend(&bytes[..bytes.len() - 1]);
+        short.push(bytes[..bytes.len() - 1].to_vec());
         bytes[..2].copy_from_slice(&(size + 1).to_le_bytes());
         bytes.push(0);
-        long.extend(bytes);
-        least.extend([4, 0]);
-        least.extend(message.kind().to_le_bytes());
+        long.push(bytes);
+        least.push([&[4, 0], &message.kind().to_le_bytes()[..]].concat());
     }
-    cases.fed("one-byte-too-few-in-each", short);
-    cases.fed("one-byte-too-many-in-each", long);
-    cases.fed("size-4-in-each", least);
+    for (name, messages) in [
+        ("one-byte-too-few-in-each", short),
+        ("one-byte-too-many-in-each", long),
+        ("size-4-in-each", least),
+    ] {
+        cases.fed(name, messages.concat());
+        cases.in_runs(name, &messages);
+    }
     for (name, size) in [
         ("types-outside-the-table", 39_u16),
         ("types-outside-of-4-bytes", 4),

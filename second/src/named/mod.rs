@@ -90,6 +90,17 @@ impl Cases {
         self.calls_on_abc(&format!("{name}-at-once"), |calls| calls.run(0, bytes));
     }
 
+    /// A run for each message, with the quote and volume after it.
+    fn in_runs(&mut self, name: &str, messages: &[Vec<u8>]) {
+        self.calls_on_abc(&format!("{name}-in-runs"), |calls| {
+            for message in messages {
+                calls.run(0, message);
+                calls.quote(ABC);
+                calls.volume(ABC);
+            }
+        });
+    }
+
     fn calls(&mut self, name: &str, make: impl FnOnce(&mut CallList)) {
         let mut calls = CallList::new();
         make(&mut calls);

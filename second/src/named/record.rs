@@ -66,7 +66,7 @@ fn capacity(cases: &mut Cases) {
             cases,
             &format!("{count}-trades-and-two-cancels"),
             &trades(1, count),
-            &[cancel(count + 1, 1), cancel(count + 2, count)],
+            &[cancel(count + 1, count), cancel(count + 2, 1)],
         );
     }
     told_after(

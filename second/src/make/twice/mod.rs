@@ -21,7 +21,7 @@ const IN_A_RUN: [usize; 6] = [0, 1, 4, 20, 60, 150];
 /// A run of the second half: messages, and bytes beside them.
 struct Run {
     messages: Range<usize>,
-    /// So many of the messages before stand in front; the run starts behind them.
+    /// So many of the last messages of all stand in front; the run starts behind them.
     before: usize,
     /// So many bytes of the next message stand behind; all of it is in the next run.
     rest: usize,
@@ -86,7 +86,7 @@ impl Twice {
 
     fn push_run(&self, list: &mut CallList, run: &Run) {
         let Range { start, end } = run.messages;
-        let before = self.messages[start - run.before..start].concat();
+        let before = self.messages[self.messages.len() - run.before..].concat();
         let messages = self.messages[start..end].concat();
         let next = self.messages.get(end).map_or(&[][..], Vec::as_slice);
         let bytes = [&before, &messages, &next[..run.rest]].concat();
@@ -104,7 +104,7 @@ fn runs(messages: &[Vec<u8>], random: &mut Random) -> Vec<Run> {
         let some = random.below(most + 1);
         runs.push(Run {
             messages: first..last,
-            before: first.min(random.pick(&[0, 0, 1, 5])),
+            before: random.pick(&[0, 0, 1, 5]).min(messages.len()),
             rest: random.pick(&[0, some, most, most.min(3)]),
         });
         first = last;

@@ -42,6 +42,7 @@ impl Maker {
             1 => Some(Pool::of_an_exchange(random)),
             _ => None,
         };
+        maker.source.clears = 50;
         maker
     }
 
@@ -84,13 +85,14 @@ impl Maker {
                 let message = stray(&mut self.source, index);
                 self.send(&message);
             }
-            15..=20 => self.leave(index),
-            21..=40 => {
+            15..=23 => self.leave(index),
+            24..=43 => {
                 let bytes = self.damaged(index);
                 self.push(bytes);
             }
-            41 | 42 => self.overfill_book(index),
-            43..=69 => self.trade(index),
+            44..=46 => self.overfill_book(index),
+            47..=50 => self.go_and_come(index),
+            51..=75 => self.trade(index),
             _ => {
                 let message = self.source.next_of(index);
                 self.send(&message);
@@ -184,29 +186,48 @@ impl Maker {
         }
     }
 
-    /// A printed trade or a cancel; at times the number of the trade is kept already.
+    /// An order goes, and another one comes under its number.
+    fn go_and_come(&mut self, index: u32) {
+        let Some(live) = self.source.live(index).last().copied() else {
+            return;
+        };
+        let number = live.number;
+        self.apply(index, Body::Delete { order: number });
+        let mut body = self.source.add_body(index);
+        if let Body::Add { order, .. } = &mut body {
+            *order = number;
+        }
+        self.apply(index, body);
+    }
+
+    /// A printed trade or a cancel; at times the number of the trade is kept already or at an edge.
     fn trade(&mut self, index: u32) {
         if self.random().one_in(3) {
             let body = self.source.cancel_body(index);
             return self.apply(index, body);
         }
-        let mut kept = self.source.kept(index);
-        kept.push(self.source.draw.id());
+        let mut numbers = self.source.kept(index);
+        if numbers.is_empty() || self.random().one_in(2) {
+            numbers = vec![0, u32::MAX];
+        }
         let mut body = self.source.printed_trade_body();
         if let Body::Trade { trade, .. } = &mut body {
             if self.random().one_in(2) {
-                *trade = self.random().pick(&kept);
+                *trade = self.random().pick(&numbers);
             }
         }
         self.apply(index, body);
     }
 
-    /// Printed trades until the record is full or nearly so.
+    /// Printed trades until the record is full or nearly so, and some more trades and cancels.
     fn fill_record(&mut self, index: u32) {
         let free = self.random().below(3);
         for _ in self.source.kept(index).len()..KEPT_TRADES - free {
             let body = self.source.printed_trade_body();
             self.apply(index, body);
+        }
+        for _ in 0..5 {
+            self.trade(index);
         }
     }
 

@@ -40,6 +40,8 @@ pub fn add_to(cases: &mut Cases) {
         delete(67, 1),
         add(68, 2, BUY, 2000, 9),
         replace(69, 65, 66, BUY, 2000, 10),
+        execute(70, 3, 900, 10),
+        add(71, 3, BUY, 2000, 11),
     ];
     let messages = [&adds(64), &replaces[..]].concat();
     cases.both("replaces-in-a-full-book-amid-a-run", &messages);
@@ -124,7 +126,13 @@ fn gone() -> Twice {
             &[replace(9, 1, 3, BUY, 1002, 64), modify(10, 1, BUY, 1002, 1)],
             &[clear(10), delete(10, 3)],
             &[clear(10), add(10, 3, SELL, 7, 7), delete(11, 3)],
-            &[execute(12, 3, 7, 7)],
+            &[delete(12, 3)],
+            &[
+                clear(12),
+                add(12, 4, SELL, 7, 7),
+                execute(13, 4, 7, 7),
+                execute(14, 4, 7, 7),
+            ],
         ],
     )
 }

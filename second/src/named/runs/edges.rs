@@ -40,10 +40,10 @@ fn last_number() -> Twice {
 }
 
 /// A symbol for each thing that can happen to a trade. The trades beside it have the next number and
-/// the one before, which for the last number and the first are each other's.
+/// the one before, which for the last number and the first are each other's, or one other bit.
 fn edge_trades(name: &str, edge: u32) -> Twice {
     let [next, before] = [edge.wrapping_add(1), edge.wrapping_sub(1)];
-    let happenings: [&[Message]; 7] = [
+    let happenings: [&[Message]; 8] = [
         &[trade(1, edge, 5, 1), cancel(2, edge)],
         &[trade(1, edge, 5, 1), trade(2, edge, 6, 1)],
         &[cancel(1, edge), trade(2, edge, 7, 1)],
@@ -51,6 +51,12 @@ fn edge_trades(name: &str, edge: u32) -> Twice {
             trade(1, edge, 5, 1),
             trade(2, next, 6, 1),
             trade(3, before, 7, 1),
+            cancel(4, edge),
+        ],
+        &[
+            trade(1, edge, 5, 1),
+            trade(2, edge ^ 1 << 16, 6, 1),
+            trade(3, edge ^ 1 << 31, 7, 1),
             cancel(4, edge),
         ],
         &[trade(1, edge, 5, 1), cancel(2, next)],

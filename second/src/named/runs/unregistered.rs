@@ -6,8 +6,9 @@ use crate::named::Cases;
 use crate::wire::write::to_bytes;
 use crate::wire::Message;
 
-/// Where ABC alone is registered, these are not: an empty place may have the index 0.
-const EDGES: [u32; 2] = [0, u32::MAX];
+/// Indices that a wrong search may take for an empty place's or for ABC's: both edges, and one that is
+/// ABC's in its low half.
+const OTHERS: [u32; 3] = [0, u32::MAX, 0x0001_0007];
 
 /// Messages that would all be done.
 fn whole_life(index: u32) -> Vec<Message> {
@@ -45,21 +46,21 @@ pub fn lists() -> Vec<Twice> {
 }
 
 pub fn add_to(cases: &mut Cases) {
-    let messages: Vec<Vec<u8>> = EDGES
+    let messages: Vec<Vec<u8>> = OTHERS
         .into_iter()
         .flat_map(whole_life)
         .chain([add(1, 1, BUY, 1000, 10)])
         .map(|message| to_bytes(&message))
         .collect();
-    let asked = [ABC, EDGES[0], EDGES[1]];
-    cases.calls("unregistered-0-and-all-ones", |calls| {
+    let asked = [&[ABC], &OTHERS[..]].concat();
+    cases.calls("unregistered-symbols-and-then-registered", |calls| {
         for push in [push_steps, push_run] {
             calls.new_state();
             calls.register(ABC, 4, b"ABC");
             push(calls, &messages);
             push_asked(calls, &asked);
-            for index in EDGES {
-                calls.register(index, 4, b"EDGE");
+            for index in OTHERS {
+                calls.register(index, 4, b"OTHER");
             }
             push_asked(calls, &asked);
             push(calls, &messages);
