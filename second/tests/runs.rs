@@ -50,8 +50,8 @@ fn a_clear_amid_a_run() {
     assert_eq!(probed("a-clear-amid-a-run"), lines);
 }
 
-/// Behind a refusal that makes a symbol stale its messages answer 8 until a clear, and those of the
-/// other symbol are done.
+/// Behind a refusal that makes a symbol stale its messages answer 8 until a clear, a low number too,
+/// and those of the other symbol are done.
 #[test]
 fn a_7_and_a_9_amid_a_run() {
     for (name, answer, size) in [
@@ -117,8 +117,8 @@ fn a_10_on_the_page() {
         "\
 R,10,65
 R,8,66
-100,68,{time},70,1,0.3000,3,S,FIRM1,0
-100,69,{time},71,66,0.0900,4,B,FIRM1,0
+100,68,{time},65,1,0.3000,3,S,FIRM1,0
+100,69,{time},66,66,0.0900,4,B,FIRM1,0
 E,1
 Q,0.0900,4,0.3000,3
 "

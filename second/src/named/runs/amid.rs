@@ -25,13 +25,14 @@ const REFUSED: [(&str, Refused); 6] = [
     }),
 ];
 
-/// Full books: cases of many messages, which stand as steps and as a run in two files.
+/// Full books: cases of many messages, which stand as steps and as a run in two files. Behind the 10
+/// comes a low number, and a clear to the expected one: only the 10 costs the mark.
 pub fn add_to(cases: &mut Cases) {
     let behind = [
-        delete(65, 1),
-        clear(70),
-        add(70, 1, SELL, 3000, 3),
-        add(71, 66, BUY, 900, 4),
+        delete(64, 1),
+        clear(65),
+        add(65, 1, SELL, 3000, 3),
+        add(66, 66, BUY, 900, 4),
     ];
     cases.both("a-10-amid-a-run", &[&adds(65), &behind[..]].concat());
     let replaces = [
@@ -85,7 +86,8 @@ fn clears() -> Twice {
     )
 }
 
-/// A refusal with a clear behind it, then the same without.
+/// A refusal with a clear behind it, then the same without. Before the clear, which is to the expected
+/// number, comes a low one: only the refusal costs the mark.
 fn stale(name: &str, refused: Refused) -> Twice {
     named(
         name,
@@ -97,12 +99,12 @@ fn stale(name: &str, refused: Refused) -> Twice {
                 trade(2, 1, 5, 1),
                 refused(3),
                 beside(2),
-                delete(3, 1),
-                clear(4),
-                add(4, 1, BUY, 1100, 7),
-                trade(5, 2, 6, 1),
+                delete(2, 1),
+                clear(3),
+                add(3, 1, BUY, 1100, 7),
+                trade(4, 2, 6, 1),
             ],
-            &[refused(6), beside(3), trade(6, 3, 9, 1)],
+            &[refused(5), beside(3), trade(5, 3, 9, 1)],
         ],
     )
 }
