@@ -78,7 +78,7 @@ impl Plan {
     }
 
     fn instructions(&self, depth: usize) -> io::Result<Vec<f64>> {
-        Files::make(depth, self.messages / COUNTED_SHARE, &self.folder)?.count()
+        Files::make(depth, self.messages.div_ceil(COUNTED_SHARE), &self.folder)?.count()
     }
 
     fn print_runs(&self, depth: usize, times: &[Times], instructions: Option<&[f64]>) {
