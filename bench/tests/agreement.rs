@@ -14,8 +14,8 @@ use second::answer::Refusal;
 use second::make::feeds::{feed as made_feed, FEED_KINDS};
 
 /// Those of the symbols of second's feeds that are registered, and one that is not.
-const MADE: [u32; 4] = [7, 8, 0, u32::MAX];
-const OTHER: u32 = 0x0700_0000;
+const MADE: [u32; 4] = [7, 8, u32::MAX, 0x0700_0000];
+const OTHER: u32 = 0;
 
 /// Steps through a feed with both readers and collects the numbers that they answer.
 fn compare<S: BuildHasher + Default>(indices: &[u32], bytes: &[u8], seen: &mut BTreeSet<u8>) {
