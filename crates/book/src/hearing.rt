@@ -16,7 +16,7 @@ ghost use Rattle.places.specs.Places.{symbols};
 ghost use Rattle.symbols.specs.State.{placeAt, entries, itself, placeOf};
 ghost use Rattle.book.specs.declared.Book.{Book};
 ghost use Rattle.book.specs.Step.{changeOf, dealOf};
-ghost use Rattle.book.specs.Planning.{Hears, Sits, seatOf, DueIn, changeIn, dealIn};
+ghost use Rattle.book.specs.Planning.{Hears, Sits, seatOf, TurnIn, changeIn, dealIn};
 
 // What reading answered: refused; a numbered message; or a clear.
 pub(crate) enum Heard {
@@ -25,10 +25,10 @@ pub(crate) enum Heard {
     Clear,
 }
 
-// What is to be done of it at its symbol: refused; in its turn, what it does to the orders and what it brings to the record; or a step.
-pub(crate) enum Due {
+// How it stands with it at its symbol: refused; in its turn; or a step's.
+pub(crate) enum Turn {
     Refused(u8),
-    Turn(Change, Deal),
+    Due,
     Steps,
 }
 
@@ -58,71 +58,77 @@ pub(crate) fn seat_of(tickets: &[u64; SYMBOLS], h: Heard) -> usize
 }
 
 // p is the place k.
-pub(crate) fn due_of(h: Heard, k: usize, p: Place) -> Due
-    ensures { λ r. ⌜ ((b : Book) (x : Read) → Hears x h → Sits b h k → (k < symbols → p ≡ placeAt (b .symbols) k) → DueIn b x k r) ⌝ }
+pub(crate) fn turn_in(h: Heard, k: usize, p: Place) -> Turn
+    ensures { λ r. ⌜ ((b : Book) (x : Read) → Hears x h → Sits b h k → (k < symbols → p ≡ placeAt (b .symbols) k) → TurnIn b x h k r) ⌝ }
 {
     match h {
-        Heard::Refused(a) => Due::Refused(a),
-        Heard::Numbered(_, number, effect) => due_at(k, p, number, effect),
-        Heard::Clear => Due::Steps,
+        Heard::Refused(a) => Turn::Refused(a),
+        Heard::Numbered(_, number, _) => turn_at(k, p, number),
+        Heard::Clear => Turn::Steps,
     }
 }
 
-fn due_at(k: usize, p: Place, number: u32, effect: Effect) -> Due
-    ensures { λ r. ⌜ ((b : Book) (x : Read) (index : ℕ) → Hears x (Heard.Numbered index number effect) → k ≡ placeOf itself index (entries (b .symbols)) → (k < symbols → p ≡ placeAt (b .symbols) k) → DueIn b x k r) ⌝ }
+fn turn_at(k: usize, p: Place, number: u32) -> Turn
+    ensures { λ r. ⌜ ((b : Book) (x : Read) (index : ℕ) (e : Effect) → Hears x (Heard.Numbered index number e) → k ≡ placeOf itself index (entries (b .symbols)) → (k < symbols → p ≡ placeAt (b .symbols) k) → TurnIn b x (Heard.Numbered index number e) k r) ⌝ }
 {
     if SYMBOLS <= k {
-        return Due::Refused(5);
+        return Turn::Refused(5);
     }
     let t = turn_of(p, number);
     if t == 7 {
-        return Due::Steps;
+        return Turn::Steps;
     }
     if t != 0 {
-        return Due::Refused(t);
+        return Turn::Refused(t);
     }
-    in_turn(effect)
+    Turn::Due
 }
 
-fn in_turn(effect: Effect) -> Due
-    ensures { λ r. ⌜ r ≡ Due.Turn (changeOf effect) (dealOf effect) ⌝ }
+// What it does to the orders, and what it brings to the record.
+pub(crate) fn change_of(h: Heard) -> Change
+    ensures { λ r. ⌜ r ≡ changeIn h ⌝ }
+{
+    match h {
+        Heard::Refused(_) => Change::Nothing,
+        Heard::Numbered(_, _, effect) => change_by(effect),
+        Heard::Clear => Change::Nothing,
+    }
+}
+
+pub(crate) fn deal_of(h: Heard) -> Deal
+    ensures { λ r. ⌜ r ≡ dealIn h ⌝ }
+{
+    match h {
+        Heard::Refused(_) => Deal::Nothing,
+        Heard::Numbered(_, _, effect) => deal_by(effect),
+        Heard::Clear => Deal::Nothing,
+    }
+}
+
+fn change_by(effect: Effect) -> Change
+    ensures { λ r. ⌜ r ≡ changeOf effect ⌝ }
 {
     match effect {
-        Effect::Add(order, buy, price, volume) => {
-            Due::Turn(Change::Add(order, buy, price, volume), Deal::Nothing)
-        }
-        Effect::Modify(order, buy, price, volume) => {
-            Due::Turn(Change::Modify(order, buy, price, volume), Deal::Nothing)
-        }
-        Effect::Delete(order) => Due::Turn(Change::Delete(order), Deal::Nothing),
-        Effect::Execute(order, volume, deal) => Due::Turn(Change::Execute(order, volume), deal),
+        Effect::Add(order, buy, price, volume) => Change::Add(order, buy, price, volume),
+        Effect::Modify(order, buy, price, volume) => Change::Modify(order, buy, price, volume),
+        Effect::Delete(order) => Change::Delete(order),
+        Effect::Execute(order, volume, _) => Change::Execute(order, volume),
         Effect::Replace(old, order, buy, price, volume) => {
-            Due::Turn(
-                Change::Replace(old, order, buy, price, volume),
-                Deal::Nothing,
-            )
+            Change::Replace(old, order, buy, price, volume)
         }
-        Effect::Other(deal) => Due::Turn(Change::Nothing, deal),
+        Effect::Other(_) => Change::Nothing,
     }
 }
 
-// What it does to the orders, and what it brings to the record: nothing, unless it is in its turn.
-pub(crate) fn change_in(t: Due) -> Change
-    ensures { λ r. ⌜ r ≡ changeIn t ⌝ }
+fn deal_by(effect: Effect) -> Deal
+    ensures { λ r. ⌜ r ≡ dealOf effect ⌝ }
 {
-    match t {
-        Due::Refused(_) => Change::Nothing,
-        Due::Turn(change, _) => change,
-        Due::Steps => Change::Nothing,
-    }
-}
-
-pub(crate) fn deal_in(t: Due) -> Deal
-    ensures { λ r. ⌜ r ≡ dealIn t ⌝ }
-{
-    match t {
-        Due::Refused(_) => Deal::Nothing,
-        Due::Turn(_, deal) => deal,
-        Due::Steps => Deal::Nothing,
+    match effect {
+        Effect::Add(_, _, _, _) => Deal::Nothing,
+        Effect::Modify(_, _, _, _) => Deal::Nothing,
+        Effect::Delete(_) => Deal::Nothing,
+        Effect::Execute(_, _, deal) => deal,
+        Effect::Replace(_, _, _, _, _) => Deal::Nothing,
+        Effect::Other(deal) => deal,
     }
 }

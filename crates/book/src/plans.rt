@@ -1,5 +1,6 @@
-// What a message in its turn stores, and where: single places of the arrays.
-use crate::hearing::Due;
+// What is done of a message: nothing; single places are stored to; or the step goes by value.
+use crate::hearing::Turn;
+use orders::Change;
 use orders::Landing;
 use orders::ORDERS;
 use orders::Order;
@@ -7,39 +8,22 @@ use orders::PLACES;
 use orders::Verdict;
 use orders::judged;
 use orders::land;
-use places::SYMBOLS;
-use places::spot;
-use record::Recording;
-use record::Trade;
-use record::ticket_of;
-use record::trade_or;
 ghost use mathlib.Core.Path.{_≡_};
 ghost use Rattle.wire.specs.Reading.{Read};
-ghost use Rattle.orders.specs.Deciding.{besides, beside, Settled};
+ghost use Rattle.orders.specs.Deciding.{besides, beside};
 ghost use Rattle.book.specs.State.{Wf};
 ghost use Rattle.book.specs.declared.Book.{Book};
-ghost use Rattle.book.specs.Planning.{DueIn, LookedFor, Plans, Fitting, Within};
+ghost use Rattle.book.specs.declared.hearing.Heard.{Heard};
+ghost use Rattle.book.specs.Planning.{changeIn, TurnIn, Looked, Judged, Plans, PlansLanding, Within};
 
-// Nothing changes, with this answer; or single places are stored to; or the step goes by value.
+// Nothing changes, with this answer; or the orders change so, and with them the record and what the symbol expects; or it is the step's.
 pub(crate) enum Plan {
     Nothing(u8),
-    Stores(Stores),
+    Lands(Landing),
     Steps,
 }
 
-// A message done: the verdict's places with its order, where the two stores of orders go, the trade with its ticket and its place among all, and whether the mark goes.
-pub(crate) struct Stores {
-    pub(crate) gone: usize,
-    pub(crate) taken: usize,
-    pub(crate) order: Order,
-    pub(crate) landing: Landing,
-    pub(crate) slot: usize,
-    pub(crate) trade: Trade,
-    pub(crate) ticket: u64,
-    pub(crate) lost: bool,
-}
-
-// x is the order looked at, y the trade that lies where the recording goes.
+// x is the order looked at, for place i.
 pub(crate) fn planned<'a>(
     numbers: &'a [u64; PLACES],
     lives: &'a [bool; PLACES],
@@ -47,65 +31,30 @@ pub(crate) fn planned<'a>(
     k: usize,
     i: usize,
     x: Order,
-    recording: Recording,
-    y: Trade,
-    t: Due,
+    change: Change,
+    t: Turn,
 ) -> Plan
-    ensures plans { λ r. ⌜ ((b : Book) (z : Read) → Wf b → besides (b .orders) ≡ beside (now (numbers .entry)) (now (lives .entry)) (now (spans .entry)) → DueIn b z k t → LookedFor b k i x recording y t → Plans b z k r) ⌝ }
-    ensures within { λ r. ⌜ Within k r ⌝ }
+    ensures plans { λ r. ⌜ ((b : Book) (z : Read) (h : Heard) → Wf b → besides (b .orders) ≡ beside (now (numbers .entry)) (now (lives .entry)) (now (spans .entry)) → change ≡ changeIn h → TurnIn b z h k t → Looked b k i x change → Plans b z h k r) ⌝ }
+    ensures within { λ r. ⌜ Within r ⌝ }
 {
     match t {
-        Due::Refused(a) => Plan::Nothing(a),
-        Due::Turn(change, _) => {
+        Turn::Refused(a) => Plan::Nothing(a),
+        Turn::Due => {
             let v = judged(numbers, lives, spans, k, i, x, change);
-            laid(k, i, x, v, recording, y)
+            landed(k, i, x, v)
         }
-        Due::Steps => Plan::Steps,
+        Turn::Steps => Plan::Steps,
     }
 }
 
-fn laid(k: usize, i: usize, x: Order, v: Verdict, recording: Recording, y: Trade) -> Plan
-    ensures plans { λ r. ⌜ ((b : Book) (z : Read) → Wf b → Fitting b z k i x v recording y → Plans b z k r) ⌝ }
-    ensures within { λ r. ⌜ Within k r ⌝ }
+fn landed(k: usize, i: usize, x: Order, v: Verdict) -> Plan
+    ensures plans { λ r. ⌜ ((b : Book) (c : Change) → Wf b → Judged b k i x c v → PlansLanding b k c r) ⌝ }
+    ensures within { λ r. ⌜ Within r ⌝ }
 {
     match v {
-        Verdict::Stays => stored(k, ORDERS, ORDERS, x, i, x, recording, y),
-        Verdict::Fits { gone, place, order } => {
-            stored(k, gone, place, order, i, x, recording, y)
-        }
+        Verdict::Stays => Plan::Lands(land(k, ORDERS, ORDERS, x, i, x)),
+        Verdict::Fits { gone, place, order } => Plan::Lands(land(k, gone, place, order, i, x)),
         Verdict::Misfit => Plan::Steps,
         Verdict::NoRoom => Plan::Steps,
     }
-}
-
-fn stored(
-    k: usize,
-    gone: usize,
-    taken: usize,
-    order: Order,
-    i: usize,
-    x: Order,
-    recording: Recording,
-    y: Trade,
-) -> Plan
-    ensures plans { λ r. ⌜ ((b : Book) (z : Read) (v : Verdict) → Wf b → Settled v gone taken order → Fitting b z k i x v recording y → Plans b z k r) ⌝ }
-    ensures within { λ r. ⌜ Within k r ⌝ }
-{
-    if SYMBOLS <= k {
-        return Plan::Steps;
-    }
-    let landing = land(k, gone, taken, order, i, x);
-    let brought = recording.trade;
-    let trade = trade_or(recording.place, brought, y);
-    let s = Stores {
-        gone,
-        taken,
-        order,
-        landing,
-        slot: spot(k, record::EACH, recording.place),
-        trade,
-        ticket: ticket_of(trade),
-        lost: recording.lost,
-    };
-    Plan::Stores(s)
 }

@@ -1,10 +1,10 @@
 // The walk over a stream of messages laid end to end.
 use crate::Book;
-use crate::hearing::change_in;
-use crate::hearing::deal_in;
-use crate::hearing::due_of;
+use crate::hearing::change_of;
+use crate::hearing::deal_of;
 use crate::hearing::hear;
 use crate::hearing::seat_of;
+use crate::hearing::turn_in;
 use crate::plans::Plan;
 use crate::plans::planned;
 use orders::Order;
@@ -17,6 +17,8 @@ use places::spot;
 use record::Record;
 use record::Trade;
 use record::decided;
+use record::ticket_of;
+use record::trade_or;
 use symbols::Place;
 use symbols::Symbols;
 use symbols::counted;
@@ -146,40 +148,39 @@ impl Book {
                     let k = seat_of(&seats, h);
                     let seat = spot(k, 1, 0);
                     let p = places[seat];
-                    let t = due_of(h, k, p);
-                    let i = looked(&numbers, &lives, &spans, k, change_in(t));
+                    let t = turn_in(h, k, p);
+                    let change = change_of(h);
+                    let i = looked(&numbers, &lives, &spans, k, change);
                     let found = spot(k, orders::EACH, i);
                     let x = orders[found];
-                    let recording = decided(&tickets, k, deal_in(t));
-                    let slot = spot(k, record::EACH, recording.place);
-                    let y = trades[slot];
-                    let plan = planned(&numbers, &lives, &spans, k, i, x, recording, y, t);
+                    let plan = planned(&numbers, &lives, &spans, k, i, x, change, t);
                     match plan {
                         Plan::Nothing(_) => {}
-                        Plan::Stores(n) => {
+                        Plan::Lands(l) => {
                             let none = no_order();
-                            let l = n.landing;
                             let emptied = l.emptied;
                             let filled = l.filled;
-                            let laid = l.order;
+                            let order = l.order;
                             orders[emptied] = none;
-                            orders[filled] = laid;
-                            let order = n.order;
+                            orders[filled] = order;
                             mirror(
                                 &mut numbers,
                                 &mut lives,
                                 &mut spans,
                                 k,
-                                n.gone,
-                                n.taken,
+                                l.gone,
+                                l.place,
                                 order,
                             );
-                            let slot = n.slot;
-                            let trade = n.trade;
+                            let r = decided(&tickets, k, deal_of(h));
+                            let slot = spot(k, record::EACH, r.place);
+                            let lies = trades[slot];
+                            let brought = r.trade;
+                            let trade = trade_or(r.place, brought, lies);
                             trades[slot] = trade;
-                            tickets[slot] = n.ticket;
-                            let next = counted(p, n.lost);
-                            places[k] = next;
+                            tickets[slot] = ticket_of(trade);
+                            let next = counted(p, r.lost);
+                            places[seat] = next;
                         }
                         Plan::Steps => {
                             let book = book_of(

@@ -101,11 +101,16 @@ withOrder b k i o = record {
   spans = besideWith (besides b) k i (o .number) (o .live) .spans;
 }
 
--- two stores among all places that come to one place emptied and one filled
+-- two stores among all places that come to one place emptied and one filled, and so does what searches read of them
 pub record LandsAs (k gone place : ℕ) (o : Order) (i : ℕ) (x : Order) (r : Landing) : Type 0 where
   pub within : (r .emptied < symbols * ordersEach) × (r .filled < symbols * ordersEach)
   pub lands : (l : List Order) → k < symbols → x ≡ getD l (spotIn ordersEach k i) noOrder
       → set (set l (r .emptied) noOrder) (r .filled) (r .order) ≡ placedIn ordersEach k (placedIn ordersEach k l gone noOrder) place o
+  pub mirrors : (b m : Beside) → Mirrors b k (r .gone) (r .place) (r .order) m → Mirrors b k gone place o m
+
+-- the orders after the two stores, with what searches read of them
+abbrev pub laidIn : Orders → Landing → Beside → Orders
+laidIn b r m = record { places = set (set (b .places) (r .emptied) noOrder) (r .filled) (r .order); numbers = m .numbers; lives = m .lives; spans = m .spans }
 
 abbrev pub settledAt : Orders → ℕ → Verdict → Changed
 settledAt b k (Verdict.Fits gone place o) = record { orders = withOrder (withOrder b k gone noOrder) k place o; fit = code.Fit.Fits }

@@ -7,10 +7,13 @@ use crate::no_order;
 use places::spot;
 ghost use Rattle.orders.specs.Deciding.{LandsAs};
 
+// The verdict's own places go with it, for what searches read.
 pub struct Landing {
     pub emptied: usize,
     pub filled: usize,
     pub order: Order,
+    pub gone: usize,
+    pub place: usize,
 }
 
 // `gone` and `place` are a verdict's own, ORDERS for none; x lies at the spot of place i.
@@ -24,6 +27,8 @@ pub fn land(k: usize, gone: usize, place: usize, order: Order, i: usize, x: Orde
                 emptied,
                 filled: spot(k, EACH, place),
                 order,
+                gone,
+                place,
             };
         }
         let none = no_order();
@@ -31,6 +36,8 @@ pub fn land(k: usize, gone: usize, place: usize, order: Order, i: usize, x: Orde
             emptied,
             filled: emptied,
             order: none,
+            gone,
+            place,
         };
     }
     if place < ORDERS {
@@ -39,6 +46,8 @@ pub fn land(k: usize, gone: usize, place: usize, order: Order, i: usize, x: Orde
             emptied: filled,
             filled,
             order,
+            gone,
+            place,
         };
     }
     let lies = spot(k, EACH, i);
@@ -46,5 +55,7 @@ pub fn land(k: usize, gone: usize, place: usize, order: Order, i: usize, x: Orde
         emptied: lies,
         filled: lies,
         order: x,
+        gone,
+        place,
     }
 }

@@ -1,25 +1,21 @@
 -- The state stands in locals, array by array: what is left of the walk from here gives what the walk from the start gives. Each turn is a step of the state that the arrays make.
-use mathlib.Core.List.{List}
 use mathlib.Core.Path.{_≡_, refl, sym, ap, _∙_}
-use Prim.Native.Nat.{ℕ, _+_, _-_, _<_, _≤_}
+use Prim.Native.Nat.{ℕ, _+_, _-_, _≤_}
 use native.Mathlib.Omega.{arith}
 use denote.Ref.{now}
 use lib.ListN.{length, getD, drop}
 use Rattle.wire.specs.Outcome.{done}
 use Rattle.wire.specs.Reading.{reachedAs, reachOf, decodedAs}
-use Rattle.places.specs.Places.{symbols}
 use Rattle.places.proofs.Landing.{spot-within}
 use Rattle.symbols.specs.State.{nowhere}
-use Rattle.symbols.specs.Turns.{restanding, countedIf}
-use Rattle.symbols.specs.declared.Place.{Place}
 use Rattle.orders.specs.State.{ordersEach, noOrder}
-use Rattle.orders.specs.declared.Order.{Order}
+use Rattle.orders.proofs.Finding.{searchable}
 use Rattle.record.specs.State.{tradesEach, noTrade}
 use Rattle.book.specs.State.{Wf}
-use Rattle.book.specs.Planning.{bookOf, Plans, Within, Inside}
+use Rattle.book.specs.Planning.{bookOf, Plans}
 use Rattle.book.specs.declared.Book.{Book}
 use Rattle.book.proofs.Walking.{Left, left-all, move-within, turn-stops, turn-less, turn-on}
-use Rattle.book.proofs.Planning.{own-seat, Sees, due-here, looked-here, nothing-steps, stores-step}
+use Rattle.book.proofs.Planning.{sits, own-seat, nothing-steps, stores-step}
 use borrow.Author.Needs.{needs}
 use Rattle.book.proofs.Book.run.Statement.{statement}
 use Rattle.book.proofs.Book.run.Tie as tie
@@ -38,26 +34,16 @@ reaches m = sym (m .before .before .before .reach-at .ensures) ∙ ap reachedAs 
 within : (m : tie.After-known-told Inv-loop μ-loop) → m .before .before .before .before .loop .here + m .before .reach .given .0 .0 ≤ length (now (m .before .before .before .before .before .before .before .before .before .before .before .before .before .before .before .before .before .before .args .s))
 within m = move-within (now (m .before .before .before .before .before .before .before .before .before .before .before .before .before .before .before .before .before .before .args .s)) (m .before .before .before .before .loop .here) (m .before .reach .given .0 .0) (reaches m)
 
--- ---- what was looked at, in the state that the arrays make
+-- ---- what is planned, of the state that the arrays make
 abbrev state : (k : tie.After-planned Inv-loop μ-loop) → Book
-state k = let l = k .before .before .before .before .before .before .before .before .before .before .before .before .before .before .before .before .before .before .before .before .before .before .before .before .before .before .before .before .loop in bookOf (l .places) (l .seats) (l .orders) (l .numbers) (l .lives) (l .spans) (l .trades) (l .tickets) (l .kept)
+state k = let l = k .before .before .before .before .before .before .before .before .before .before .before .before .before .before .before .before .before .before .before .before .before .before .before .loop in bookOf (l .places) (l .seats) (l .orders) (l .numbers) (l .lives) (l .spans) (l .trades) (l .tickets) (l .kept)
 
-sees : (k : tie.After-planned Inv-loop μ-loop) → Sees (state k) (decodedAs (k .before .before .before .before .before .before .before .before .before .before .before .before .before .before .before .before .before .before .before .before .before .before .decode .result)) (k .before .before .before .before .before .before .before .before .before .before .before .before .before .before .before .before .before .before .before .before .before .hear .result) (k .before .before .before .before .before .before .before .before .before .before .before .before .before .before .before .before .before .before .before .seat-of .result) (getD (k .before .before .before .before .before .before .before .before .before .before .before .before .before .before .before .before .before .before .before .before .before .before .before .before .before .before .before .before .loop .places) (k .before .before .before .before .before .before .before .before .before .before .before .before .before .before .before .before .before .before .spot .result) nowhere) (k .before .before .before .before .before .before .before .before .before .before .before .before .before .before .before .before .due-of .result) (k .before .before .before .before .before .before .before .before .before .before .before .looked .result)
-    (getD (k .before .before .before .before .before .before .before .before .before .before .before .before .before .before .before .before .before .before .before .before .before .before .before .before .before .before .before .before .loop .orders) (k .before .before .before .before .before .before .before .before .before .before .spot2 .result) noOrder) (k .before .before .before .before .before .before .decided .result) (getD (k .before .before .before .before .before .before .before .before .before .before .before .before .before .before .before .before .before .before .before .before .before .before .before .before .before .before .before .before .loop .trades) (k .before .before .before .before .before .spot3 .result) noTrade)
-sees k =
-    let l = k .before .before .before .before .before .before .before .before .before .before .before .before .before .before .before .before .before .before .before .before .before .before .before .before .before .before .before .before .loop in
-    record {
-      hears = k .before .before .before .before .before .before .before .before .before .before .before .before .before .before .before .before .before .before .before .before .before .hear .ensures;
-      seat = k .before .before .before .before .before .before .before .before .before .before .before .before .before .before .before .before .before .before .before .seat-of .ensures;
-      place = λ h. ap (λ (n : ℕ). getD (l .places) n nowhere) (k .before .before .before .before .before .before .before .before .before .before .before .before .before .before .before .before .before .before .spot .ensures ∙ own-seat _ h);
-      due = k .before .before .before .before .before .before .before .before .before .before .before .before .before .before .before .before .due-of .ensures (state k) _;
-      lies = record { order = ap (λ (n : ℕ). getD (l .orders) n noOrder) (k .before .before .before .before .before .before .before .before .before .before .spot2 .ensures); trade = ap (λ (n : ℕ). getD (l .trades) n noTrade) (k .before .before .before .before .before .spot3 .ensures) };
-      found = λ h s. rw (k .before .before .before .before .before .before .before .before .before .before .before .before .change-in .ensures) at (k .before .before .before .before .before .before .before .before .before .before .before .looked .ensures (l .orders) h s);
-      decides = λ h s w. rw (k .before .before .before .before .before .before .before .deal-in .ensures) at (k .before .before .before .before .before .before .decided .ensures .0 (l .trades) h s w);
-    }
-
-plans : (k : tie.After-planned Inv-loop μ-loop) → Wf (state k) → Plans (state k) (decodedAs (k .before .before .before .before .before .before .before .before .before .before .before .before .before .before .before .before .before .before .before .before .before .before .decode .result)) (k .before .before .before .before .before .before .before .before .before .before .before .before .before .before .before .before .before .before .before .seat-of .result) (k .planned .result)
-plans k w = k .planned .ensures .0 (state k) _ w refl (due-here (state k) _ w _ _ _ _ _ _ _ _ (sees k)) (looked-here (state k) _ w _ _ _ _ _ _ _ _ (sees k))
+plans : (k : tie.After-planned Inv-loop μ-loop) → Wf (state k) → Plans (state k) (decodedAs (k .before .before .before .before .before .before .before .before .before .before .before .before .before .before .before .before .before .decode .result)) (k .before .before .before .before .before .before .before .before .before .before .before .before .before .before .before .before .hear .result) (k .before .before .before .before .before .before .before .before .before .before .before .before .before .before .seat-of .result) (k .planned .result)
+plans k w =
+    let l = k .before .before .before .before .before .before .before .before .before .before .before .before .before .before .before .before .before .before .before .before .before .before .before .loop in
+    k .planned .ensures .0 (state k) _ (k .before .before .before .before .before .before .before .before .before .before .before .before .before .before .before .before .hear .result) w refl (k .before .before .before .before .before .before .before .before .before .before .change-of .ensures)
+    (k .before .before .before .before .before .before .before .before .before .before .before .turn-in .ensures (state k) _ (k .before .before .before .before .before .before .before .before .before .before .before .before .before .before .before .before .hear .ensures) (sits (state k) w (k .before .before .before .before .before .before .before .before .before .before .before .before .before .before .before .before .hear .result) _ (k .before .before .before .before .before .before .before .before .before .before .before .before .before .before .seat-of .ensures)) (λ h. ap (λ (n : ℕ). getD (l .places) n nowhere) (k .before .before .before .before .before .before .before .before .before .before .before .before .before .spot .ensures ∙ own-seat _ h)))
+    (record { lies = ap (λ (n : ℕ). getD (l .orders) n noOrder) (k .before .before .before .before .before .spot2 .ensures); found = λ h. k .before .before .before .before .before .before .looked .ensures (l .orders) h (searchable (state k .orders) _ h (w .orders)) })
 
 market-of-requires : tie.Need-market-of-requires Inv-loop μ-loop
 market-of-requires c κs = search needs
@@ -119,11 +105,11 @@ mul-p c = omega (arith, c .spot .ensures, spot-within 1 (c .before .seat-of .res
 array-copy-out-p : tie.Need-array-copy-out-p Inv-loop μ-loop
 array-copy-out-p c = omega (arith, c .spot .ensures, spot-within 1 (c .before .seat-of .result) 0 (omega arith))
 
-due-of-requires : tie.Need-due-of-requires Inv-loop μ-loop
-due-of-requires c κs = search needs
+turn-in-requires : tie.Need-turn-in-requires Inv-loop μ-loop
+turn-in-requires c κs = search needs
 
-change-in-requires : tie.Need-change-in-requires Inv-loop μ-loop
-change-in-requires c κs = search needs
+change-of-requires : tie.Need-change-of-requires Inv-loop μ-loop
+change-of-requires c κs = search needs
 
 looked-requires : tie.Need-looked-requires Inv-loop μ-loop
 looked-requires c κs = search needs
@@ -137,21 +123,6 @@ mul-x c = omega (arith, c .spot2 .ensures, spot-within ordersEach (c .before .be
 array-copy-out-x : tie.Need-array-copy-out-x Inv-loop μ-loop
 array-copy-out-x c = omega (arith, c .spot2 .ensures, spot-within ordersEach (c .before .before .before .before .before .before .before .before .before .seat-of .result) (c .before .looked .result) (omega arith))
 
-deal-in-requires : tie.Need-deal-in-requires Inv-loop μ-loop
-deal-in-requires c κs = search needs
-
-decided-requires : tie.Need-decided-requires Inv-loop μ-loop
-decided-requires c κs = search needs
-
-spot-requires-3 : tie.Need-spot-requires-3 Inv-loop μ-loop
-spot-requires-3 c κs = search needs
-
-mul-y : tie.Need-mul-y Inv-loop μ-loop
-mul-y c = omega (arith, c .spot3 .ensures, spot-within tradesEach (c .before .before .before .before .before .before .before .before .before .before .before .before .before .before .seat-of .result) (c .before .decided .result .place) (omega arith))
-
-array-copy-out-y : tie.Need-array-copy-out-y Inv-loop μ-loop
-array-copy-out-y c = omega (arith, c .spot3 .ensures, spot-within tradesEach (c .before .before .before .before .before .before .before .before .before .before .before .before .before .before .seat-of .result) (c .before .decided .result .place) (omega arith))
-
 planned-requires : tie.Need-planned-requires Inv-loop μ-loop
 planned-requires c κs = search needs
 
@@ -159,14 +130,14 @@ enum-told-3 : tie.Need-enum-told-3 Inv-loop μ-loop
 enum-told-3 c = search needs
 
 loop-less : tie.Need-loop-less Inv-loop μ-loop
-loop-less c = let m = c .before .before .before .before .before .before .before .before .before .before .before .before .before .before .before .before .before .before .before .before .before .before .before .before .before .before in turn-less _ _ _ _ _ (m .before .before .before .before .loop .inv) (m .before .reach .given .0 .0) (reaches m)
+loop-less c = let m = c .before .before .before .before .before .before .before .before .before .before .before .before .before .before .before .before .before .before .before .before .before in turn-less _ _ _ _ _ (m .before .before .before .before .loop .inv) (m .before .reach .given .0 .0) (reaches m)
 
 loop-again : tie.Need-loop-again Inv-loop μ-loop
 loop-again c =
     let k = c .before .before in
-    let m = c .before .before .before .before .before .before .before .before .before .before .before .before .before .before .before .before .before .before .before .before .before .before .before .before .before .before in
-    let q = c .before .before .before .before .before .before .before .before .before .before .before .before .before .before .before .before .before .before .before .before .before .before .before .before in
-    turn-on _ _ _ _ _ (c .before .before .before .before .before .before .before .before .before .before .before .before .before .before .before .before .before .before .before .before .before .before .before .before .before .before .before .before .before .before .loop .inv) (m .before .reach .given .0 .0) (reaches m) (q .decode .result) _ (m .before .before .before .before .before .before .before .before .before .before .before .before .before .before .before .before .market-of .ensures) (q .decode .ensures .0) (record { book = _; answer = _ })
+    let m = c .before .before .before .before .before .before .before .before .before .before .before .before .before .before .before .before .before .before .before .before .before in
+    let q = c .before .before .before .before .before .before .before .before .before .before .before .before .before .before .before .before .before .before .before in
+    turn-on _ _ _ _ _ (c .before .before .before .before .before .before .before .before .before .before .before .before .before .before .before .before .before .before .before .before .before .before .before .before .before .loop .inv) (m .before .reach .given .0 .0) (reaches m) (q .decode .result) _ (m .before .before .before .before .before .before .before .before .before .before .before .before .before .before .before .before .market-of .ensures) (q .decode .ensures .0) (record { book = _; answer = _ })
     (nothing-steps (state k) _ _ (λ w. rw (c .enum-told3 .given .1) at (plans k w)))
 
 enum-known-plan : tie.Need-enum-known-plan Inv-loop μ-loop
@@ -176,54 +147,83 @@ no-order-requires : tie.Need-no-order-requires Inv-loop μ-loop
 no-order-requires c κs = search needs
 
 mul-orders : tie.Need-mul-orders Inv-loop μ-loop
-mul-orders c = let n = (rw (c .before .before .before .before .plan .given .1) at (c .before .before .before .before .before .before .planned .ensures .1)) in omega (arith, n .emptied)
+mul-orders c = let n = (rw (c .before .before .before .plan .given .1) at (c .before .before .before .before .before .planned .ensures .1)) in omega (arith, n .0)
 
 array-set-from-orders : tie.Need-array-set-from-orders Inv-loop μ-loop
-array-set-from-orders c = let n = (rw (c .before .before .before .before .plan .given .1) at (c .before .before .before .before .before .before .planned .ensures .1)) in omega (arith, n .emptied)
+array-set-from-orders c = let n = (rw (c .before .before .before .plan .given .1) at (c .before .before .before .before .before .planned .ensures .1)) in omega (arith, n .0)
 
 mul-orders-2 : tie.Need-mul-orders-2 Inv-loop μ-loop
-mul-orders-2 c = let n = (rw (c .before .before .before .before .plan .given .1) at (c .before .before .before .before .before .before .planned .ensures .1)) in omega (arith, n .filled)
+mul-orders-2 c = let n = (rw (c .before .before .before .plan .given .1) at (c .before .before .before .before .before .planned .ensures .1)) in omega (arith, n .1)
 
 array-set-from-orders-2 : tie.Need-array-set-from-orders-2 Inv-loop μ-loop
-array-set-from-orders-2 c = let n = (rw (c .before .before .before .before .plan .given .1) at (c .before .before .before .before .before .before .planned .ensures .1)) in omega (arith, n .filled)
+array-set-from-orders-2 c = let n = (rw (c .before .before .before .plan .given .1) at (c .before .before .before .before .before .planned .ensures .1)) in omega (arith, n .1)
 
 mirror-requires : tie.Need-mirror-requires Inv-loop μ-loop
 mirror-requires c κs = search needs
 
+deal-of-requires : tie.Need-deal-of-requires Inv-loop μ-loop
+deal-of-requires c κs = search needs
+
+decided-requires : tie.Need-decided-requires Inv-loop μ-loop
+decided-requires c κs = search needs
+
+spot-requires-3 : tie.Need-spot-requires-3 Inv-loop μ-loop
+spot-requires-3 c κs = search needs
+
+mul-lies : tie.Need-mul-lies Inv-loop μ-loop
+mul-lies c = omega (arith, c .spot3 .ensures, spot-within tradesEach (c .before .before .before .before .before .before .before .before .before .before .before .before .before .before .before .before .before .before .before .before .before .before .before .before .before .before .before .seat-of .result) (c .before .decided .result .place) (omega arith))
+
+array-copy-out-lies : tie.Need-array-copy-out-lies Inv-loop μ-loop
+array-copy-out-lies c = omega (arith, c .spot3 .ensures, spot-within tradesEach (c .before .before .before .before .before .before .before .before .before .before .before .before .before .before .before .before .before .before .before .before .before .before .before .before .before .before .before .seat-of .result) (c .before .decided .result .place) (omega arith))
+
+trade-or-requires : tie.Need-trade-or-requires Inv-loop μ-loop
+trade-or-requires c κs = search needs
+
 mul-trades : tie.Need-mul-trades Inv-loop μ-loop
-mul-trades c = let n = (rw (c .before .before .before .before .before .before .before .before .before .before .plan .given .1) at (c .before .before .before .before .before .before .before .before .before .before .before .before .planned .ensures .1)) in omega (arith, n .slot)
+mul-trades c = omega (arith, c .before .before .before .spot3 .ensures, spot-within tradesEach (c .before .before .before .before .before .before .before .before .before .before .before .before .before .before .before .before .before .before .before .before .before .before .before .before .before .before .before .before .before .before .seat-of .result) (c .before .before .before .before .decided .result .place) (omega arith))
 
 array-set-from-trades : tie.Need-array-set-from-trades Inv-loop μ-loop
-array-set-from-trades c = let n = (rw (c .before .before .before .before .before .before .before .before .before .before .plan .given .1) at (c .before .before .before .before .before .before .before .before .before .before .before .before .planned .ensures .1)) in omega (arith, n .slot)
+array-set-from-trades c = omega (arith, c .before .before .before .spot3 .ensures, spot-within tradesEach (c .before .before .before .before .before .before .before .before .before .before .before .before .before .before .before .before .before .before .before .before .before .before .before .before .before .before .before .before .before .before .seat-of .result) (c .before .before .before .before .decided .result .place) (omega arith))
+
+ticket-of-requires : tie.Need-ticket-of-requires Inv-loop μ-loop
+ticket-of-requires c κs = search needs
 
 mul-tickets : tie.Need-mul-tickets Inv-loop μ-loop
-mul-tickets c = let n = (rw (c .before .before .before .before .before .before .before .before .before .before .plan .given .1) at (c .before .before .before .before .before .before .before .before .before .before .before .before .planned .ensures .1)) in omega (arith, n .slot)
+mul-tickets c = omega (arith, c .before .before .before .before .spot3 .ensures, spot-within tradesEach (c .before .before .before .before .before .before .before .before .before .before .before .before .before .before .before .before .before .before .before .before .before .before .before .before .before .before .before .before .before .before .before .seat-of .result) (c .before .before .before .before .before .decided .result .place) (omega arith))
 
 array-write-tickets : tie.Need-array-write-tickets Inv-loop μ-loop
-array-write-tickets c = let n = (rw (c .before .before .before .before .before .before .before .before .before .before .plan .given .1) at (c .before .before .before .before .before .before .before .before .before .before .before .before .planned .ensures .1)) in omega (arith, n .slot)
+array-write-tickets c = omega (arith, c .before .before .before .before .spot3 .ensures, spot-within tradesEach (c .before .before .before .before .before .before .before .before .before .before .before .before .before .before .before .before .before .before .before .before .before .before .before .before .before .before .before .before .before .before .before .seat-of .result) (c .before .before .before .before .before .decided .result .place) (omega arith))
 
 counted-requires : tie.Need-counted-requires Inv-loop μ-loop
 counted-requires c κs = search needs
 
 mul-places : tie.Need-mul-places Inv-loop μ-loop
-mul-places c = let n = (rw (c .before .before .before .before .before .before .before .before .before .before .before .plan .given .1) at (c .before .before .before .before .before .before .before .before .before .before .before .before .before .planned .ensures .1)) in omega (arith, n .seat)
+mul-places c = omega (arith, c .before .before .before .before .before .before .before .before .before .before .before .before .before .before .before .before .before .before .before .before .before .before .before .before .before .before .before .before .before .before .before .spot .ensures, spot-within 1 (c .before .before .before .before .before .before .before .before .before .before .before .before .before .before .before .before .before .before .before .before .before .before .before .before .before .before .before .before .before .before .before .before .seat-of .result) 0 (omega arith))
 
 array-set-from-places : tie.Need-array-set-from-places Inv-loop μ-loop
-array-set-from-places c = let n = (rw (c .before .before .before .before .before .before .before .before .before .before .before .plan .given .1) at (c .before .before .before .before .before .before .before .before .before .before .before .before .before .planned .ensures .1)) in omega (arith, n .seat)
+array-set-from-places c = omega (arith, c .before .before .before .before .before .before .before .before .before .before .before .before .before .before .before .before .before .before .before .before .before .before .before .before .before .before .before .before .before .before .before .spot .ensures, spot-within 1 (c .before .before .before .before .before .before .before .before .before .before .before .before .before .before .before .before .before .before .before .before .before .before .before .before .before .before .before .before .before .before .before .before .seat-of .result) 0 (omega arith))
 
 loop-less-2 : tie.Need-loop-less-2 Inv-loop μ-loop
 loop-less-2 c = let m = c .before .before .before .before .before .before .before .before .before .before .before .before .before .before .before .before .before .before .before .before .before .before .before .before .before .before .before .before .before .before .before .before .before .before .before .before .before in turn-less _ _ _ _ _ (m .before .before .before .before .loop .inv) (m .before .reach .given .0 .0) (reaches m)
 
 loop-again-2 : tie.Need-loop-again-2 Inv-loop μ-loop
 loop-again-2 c =
-    let k = c .before .before .before .before .before .before .before .before .before .before .before .before .before in
+    let k = c .before .before .before .before .before .before .before .before .before .before .before .before .before .before .before .before .before .before in
     let m = c .before .before .before .before .before .before .before .before .before .before .before .before .before .before .before .before .before .before .before .before .before .before .before .before .before .before .before .before .before .before .before .before .before .before .before .before .before in
     let q = c .before .before .before .before .before .before .before .before .before .before .before .before .before .before .before .before .before .before .before .before .before .before .before .before .before .before .before .before .before .before .before .before .before .before .before in
-    let n = c .before .before .before .before .before .before .before .before .before .before .before .plan .given .0 .0 in
-    let h = (rw (c .before .before .before .before .before .before .before .before .before .before .before .plan .given .1) at (c .before .before .before .before .before .before .before .before .before .before .before .before .before .planned .ensures .1)) .seat in
     turn-on _ _ _ _ _ (c .before .before .before .before .before .before .before .before .before .before .before .before .before .before .before .before .before .before .before .before .before .before .before .before .before .before .before .before .before .before .before .before .before .before .before .before .before .before .before .before .before .loop .inv) (m .before .reach .given .0 .0) (reaches m) (q .decode .result) _ (m .before .before .before .before .before .before .before .before .before .before .before .before .before .before .before .before .market-of .ensures) (q .decode .ensures .0) (record { book = _; answer = 0 })
-    (rw (c .counted .ensures ∙ ap (λ (p : Place). restanding p (countedIf (n .lost) (p .standing))) (sees k .place h), c .before .before .before .before .before .before .before .before .before .no-order .ensures)
-    (stores-step (state k) _ (k .before .before .before .before .before .before .before .before .before .before .before .before .before .before .before .before .before .before .before .seat-of .result) n _ (λ w. (rw (c .before .before .before .before .before .before .before .before .before .before .before .plan .given .1) at (plans k w)) _ (c .before .before .mirror .ensures))))
+    (rw (c .before .before .before .before .before .before .before .before .before .before .before .before .before .before .no-order .ensures)
+    (stores-step (state k) _ (c .before .before .before .before .before .before .before .before .before .before .before .before .before .before .before .before .before .before .before .before .before .before .before .before .before .before .before .before .before .before .before .before .before .before .hear .result) (c .before .before .before .before .before .before .before .before .before .before .before .before .before .before .before .before .before .before .before .before .before .before .before .before .before .before .before .before .before .before .before .before .seat-of .result) (c .before .before .before .before .before .before .decided .result) _ _ _ _ _ _
+    (record {
+      decides = λ g s w. rw (c .before .before .before .before .before .before .before .deal-of .ensures) at (c .before .before .before .before .before .before .decided .ensures .0 _ g s w);
+      slot = c .before .before .before .before .before .spot3 .ensures;
+      trade = c .before .before .trade-or .ensures;
+      ticket = c .before .ticket-of .ensures;
+      own = c .before .before .before .before .before .before .before .before .before .before .before .before .before .before .before .before .before .before .before .before .before .before .before .before .before .before .before .before .before .before .before .spot .ensures;
+      lies = refl;
+      counted = c .counted .ensures;
+    })
+    _ _ (c .before .before .before .before .before .before .before .before .before .mirror .ensures) (λ w. rw (c .before .before .before .before .before .before .before .before .before .before .before .before .before .before .before .before .plan .given .1) at (plans k w))))
 
 enum-told-4 : tie.Need-enum-told-4 Inv-loop μ-loop
 enum-told-4 c = search needs
@@ -235,14 +235,14 @@ step-requires : tie.Need-step-requires Inv-loop μ-loop
 step-requires c κs = search needs
 
 loop-less-3 : tie.Need-loop-less-3 Inv-loop μ-loop
-loop-less-3 c = let m = c .before .before .before .before .before .before .before .before .before .before .before .before .before .before .before .before .before .before .before .before .before .before .before .before .before .before .before .before .before .before .before .before .before .before .before .before .before .before .before .before in turn-less _ _ _ _ _ (m .before .before .before .before .loop .inv) (m .before .reach .given .0 .0) (reaches m)
+loop-less-3 c = let m = c .before .before .before .before .before .before .before .before .before .before .before .before .before .before .before .before .before .before .before .before .before .before .before .before .before .before .before .before .before .before .before .before .before .before .before in turn-less _ _ _ _ _ (m .before .before .before .before .loop .inv) (m .before .reach .given .0 .0) (reaches m)
 
 loop-again-3 : tie.Need-loop-again-3 Inv-loop μ-loop
 loop-again-3 c =
     let k = c .before .before .before .before .before .before .before .before .before .before .before .before .before .before .before .before in
-    let m = c .before .before .before .before .before .before .before .before .before .before .before .before .before .before .before .before .before .before .before .before .before .before .before .before .before .before .before .before .before .before .before .before .before .before .before .before .before .before .before .before in
-    let q = c .before .before .before .before .before .before .before .before .before .before .before .before .before .before .before .before .before .before .before .before .before .before .before .before .before .before .before .before .before .before .before .before .before .before .before .before .before .before in
-    turn-on _ _ _ _ _ (c .before .before .before .before .before .before .before .before .before .before .before .before .before .before .before .before .before .before .before .before .before .before .before .before .before .before .before .before .before .before .before .before .before .before .before .before .before .before .before .before .before .before .before .before .loop .inv) (m .before .reach .given .0 .0) (reaches m) (q .decode .result) _ (m .before .before .before .before .before .before .before .before .before .before .before .before .before .before .before .before .market-of .ensures) (q .decode .ensures .0) (record { book = _; answer = _ })
+    let m = c .before .before .before .before .before .before .before .before .before .before .before .before .before .before .before .before .before .before .before .before .before .before .before .before .before .before .before .before .before .before .before .before .before .before .before in
+    let q = c .before .before .before .before .before .before .before .before .before .before .before .before .before .before .before .before .before .before .before .before .before .before .before .before .before .before .before .before .before .before .before .before .before in
+    turn-on _ _ _ _ _ (c .before .before .before .before .before .before .before .before .before .before .before .before .before .before .before .before .before .before .before .before .before .before .before .before .before .before .before .before .before .before .before .before .before .before .before .before .before .before .before .loop .inv) (m .before .reach .given .0 .0) (reaches m) (q .decode .result) _ (m .before .before .before .before .before .before .before .before .before .before .before .before .before .before .before .before .market-of .ensures) (q .decode .ensures .0) (record { book = _; answer = _ })
     (rw (c .before .before .before .before .before .before .before .before .before .before .before .before .before .book-of3 .ensures) at (c .before .before .before .before .before .before .before .before .before .before .before .before .step .ensures .0))
 
 pub run-spec : {M : Type 1} → statement M
@@ -271,17 +271,12 @@ run-spec =
     spot-requires
     mul-p
     array-copy-out-p
-    due-of-requires
-    change-in-requires
+    turn-in-requires
+    change-of-requires
     looked-requires
     spot-requires-2
     mul-x
     array-copy-out-x
-    deal-in-requires
-    decided-requires
-    spot-requires-3
-    mul-y
-    array-copy-out-y
     planned-requires
     enum-told-3
     loop-less
@@ -293,8 +288,15 @@ run-spec =
     mul-orders-2
     array-set-from-orders-2
     mirror-requires
+    deal-of-requires
+    decided-requires
+    spot-requires-3
+    mul-lies
+    array-copy-out-lies
+    trade-or-requires
     mul-trades
     array-set-from-trades
+    ticket-of-requires
     mul-tickets
     array-write-tickets
     counted-requires
