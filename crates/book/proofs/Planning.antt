@@ -38,12 +38,11 @@ use Rattle.record.proofs.Storing.{dealt, stored-in}
 use Rattle.book.specs.State.{Next, view, Wf}
 use Rattle.book.specs.Step.{refusing, stepOf}
 use Rattle.book.specs.Promises.{Steps}
-use Rattle.book.specs.Planning.{Hears, seatOf, Sits, changeIn, dealIn, InTurn, TurnIn, Looked, Judged, Lays, Plans, storedIn}
+use Rattle.book.specs.Planning.{Hears, seatOf, Sits, changeIn, dealIn, InTurn, TurnIn, Looked, Judged, Lays, storedIn}
 use Rattle.book.specs.declared.Book.{Book}
 use Rattle.book.specs.declared.acts.Effect.{Effect}
 use Rattle.book.specs.declared.hearing.Heard.{Heard}
 use Rattle.book.specs.declared.hearing.Turn.{Turn}
-use Rattle.book.specs.declared.plans.Plan.{Plan}
 use Rattle.book.proofs.Acting.{Asked, meeting-away, meeting-turn, awaits, act-nobody}
 use Rattle.book.proofs.Stores.{enacts-done}
 use Rattle.book.proofs.Views.{same-market}
@@ -113,7 +112,7 @@ module _ (b : Book) (z : Read) (h : Heard) (k : ℕ) where
     abbrev after : Book
     after = storedIn b seat q l m slot t n
 
-    pub stores-step : (Wf b → Plans b z h k (Plan.Lands l)) → Steps b (stepOf (view b) z) (record { book = after; answer = 0 })
+    pub stores-step : (Wf b → InTurn b z k (changeIn h) (dealIn h) × Lays b k (changeIn h) l) → Steps b (stepOf (view b) z) (record { book = after; answer = 0 })
     unfolding among
     stores-step plans = record {
       market = same-market b after refl;

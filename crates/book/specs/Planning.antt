@@ -30,6 +30,7 @@ use Rattle.book.specs.declared.Book.{Book}
 use Rattle.book.specs.declared.Done.{Done}
 use Rattle.book.specs.declared.hearing.Heard.{Heard}
 use Rattle.book.specs.declared.hearing.Turn.{Turn}
+use Rattle.book.specs.declared.plans.Way.{Way}
 use Rattle.book.specs.declared.plans.Plan.{Plan}
 
 -- ---- a state, array by array
@@ -94,21 +95,25 @@ pub record Judged (b : Book) (k i : ℕ) (x : Order) (c : Change) (v : Verdict) 
 abbrev pub Lays : Book → ℕ → Change → Landing → Type 0
 Lays b k c l = (m : Beside) → Mirrors (besides (b .orders)) k (l .gone) (l .place) (l .order) m → Obeys (b .orders) k (applyTo (ordersAt b k) c) (record { orders = laidIn (b .orders) l m; fit = code.Fit.Fits })
 
+abbrev pub LandsBy : Book → ℕ → Change → Landing → Way → Type 0
+LandsBy b k c l Way.Nothing = ⊥
+LandsBy b k c l Way.Lands = Lays b k c l
+LandsBy b k c l Way.Steps = Unit {0}
+
 abbrev pub PlansLanding : Book → ℕ → Change → Plan → Type 0
-PlansLanding b k c (Plan.Nothing a) = ⊥
-PlansLanding b k c (Plan.Lands l) = Lays b k c l
-PlansLanding b k c Plan.Steps = Unit {0}
+PlansLanding b k c r = LandsBy b k c (r .landing) (r .way)
+
+abbrev pub PlansBy : Book → Read → Heard → ℕ → ℕ → Landing → Way → Type 0
+PlansBy b x h k a l Way.Nothing = stepOf (view b) x ≡ refusing (view b) a
+PlansBy b x h k a l Way.Lands = InTurn b x k (changeIn h) (dealIn h) × Lays b k (changeIn h) l
+PlansBy b x h k a l Way.Steps = Unit {0}
 
 abbrev pub Plans : Book → Read → Heard → ℕ → Plan → Type 0
-Plans b x h k (Plan.Nothing a) = stepOf (view b) x ≡ refusing (view b) a
-Plans b x h k (Plan.Lands l) = InTurn b x k (changeIn h) (dealIn h) × Lays b k (changeIn h) l
-Plans b x h k Plan.Steps = Unit {0}
+Plans b x h k r = PlansBy b x h k (r .answer) (r .landing) (r .way)
 
 -- every store is within its array
 abbrev pub Within : Plan → Type 0
-Within (Plan.Nothing a) = Unit {0}
-Within (Plan.Lands l) = (l .emptied < symbols * ordersEach) × (l .filled < symbols * ordersEach)
-Within Plan.Steps = Unit {0}
+Within r = (r .landing .emptied < symbols * ordersEach) × (r .landing .filled < symbols * ordersEach)
 
 -- ---- the state once all is stored: the symbol at its seat, the orders, and the trade at its slot
 abbrev pub storedIn : Book → ℕ → Place → Landing → Beside → ℕ → Trade → ℕ → Book

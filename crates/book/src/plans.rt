@@ -10,17 +10,24 @@ use orders::judged;
 use orders::land;
 ghost use mathlib.Core.Path.{_≡_};
 ghost use Rattle.wire.specs.Reading.{Read};
-ghost use Rattle.orders.specs.Deciding.{besides, beside};
+ghost use Rattle.orders.specs.State.{ordersEach};
+ghost use Rattle.orders.specs.Deciding.{besides, beside, LandsAs};
 ghost use Rattle.book.specs.State.{Wf};
 ghost use Rattle.book.specs.declared.Book.{Book};
 ghost use Rattle.book.specs.declared.hearing.Heard.{Heard};
 ghost use Rattle.book.specs.Planning.{changeIn, TurnIn, Looked, Judged, Plans, PlansLanding, Within};
 
-// Nothing changes, with this answer; or the orders change so, and with them the record and what the symbol expects; or it is the step's.
-pub(crate) enum Plan {
-    Nothing(u8),
-    Lands(Landing),
+// The three ways. A plan that lands says where: the orders change so, and with them the record and what the symbol expects. One that does nothing has its answer.
+pub(crate) enum Way {
+    Nothing,
+    Lands,
     Steps,
+}
+
+pub(crate) struct Plan {
+    pub(crate) way: Way,
+    pub(crate) answer: u8,
+    pub(crate) landing: Landing,
 }
 
 // x is the order looked at, for place i.
@@ -38,12 +45,12 @@ pub(crate) fn planned<'a>(
     ensures within { λ r. ⌜ Within r ⌝ }
 {
     match t {
-        Turn::Refused(a) => Plan::Nothing(a),
+        Turn::Refused(a) => again(Way::Nothing, a, k, i, x),
         Turn::Due => {
             let v = judged(numbers, lives, spans, k, i, x, change);
             landed(k, i, x, v)
         }
-        Turn::Steps => Plan::Steps,
+        Turn::Steps => again(Way::Steps, 0, k, i, x),
     }
 }
 
@@ -52,9 +59,25 @@ fn landed(k: usize, i: usize, x: Order, v: Verdict) -> Plan
     ensures within { λ r. ⌜ Within r ⌝ }
 {
     match v {
-        Verdict::Stays => Plan::Lands(land(k, ORDERS, ORDERS, x, i, x)),
-        Verdict::Fits { gone, place, order } => Plan::Lands(land(k, gone, place, order, i, x)),
-        Verdict::Misfit => Plan::Steps,
-        Verdict::NoRoom => Plan::Steps,
+        Verdict::Stays => again(Way::Lands, 0, k, i, x),
+        Verdict::Fits { gone, place, order } => Plan {
+            way: Way::Lands,
+            answer: 0,
+            landing: land(k, gone, place, order, i, x),
+        },
+        Verdict::Misfit => again(Way::Steps, 0, k, i, x),
+        Verdict::NoRoom => again(Way::Steps, 0, k, i, x),
+    }
+}
+
+// Lands what lies there.
+fn again(way: Way, answer: u8, k: usize, i: usize, x: Order) -> Plan
+    ensures same { λ r. ⌜ (r .way ≡ way) × (r .answer ≡ answer) ⌝ }
+    ensures lands { λ r. ⌜ LandsAs k ordersEach ordersEach x i x (r .landing) ⌝ }
+{
+    Plan {
+        way,
+        answer,
+        landing: land(k, ORDERS, ORDERS, x, i, x),
     }
 }

@@ -5,7 +5,7 @@ use crate::hearing::deal_of;
 use crate::hearing::hear;
 use crate::hearing::seat_of;
 use crate::hearing::turn_in;
-use crate::plans::Plan;
+use crate::plans::Way;
 use crate::plans::planned;
 use orders::Order;
 use orders::Orders;
@@ -100,6 +100,7 @@ impl Book {
         let record = self.trades;
         let mut trades = record.places;
         let mut tickets = record.tickets;
+        let none = no_order();
         let mut here = at;
         loop {
             let reach = wire::reach_at(s, here);
@@ -154,10 +155,11 @@ impl Book {
                     let found = spot(k, orders::EACH, i);
                     let x = orders[found];
                     let plan = planned(&numbers, &lives, &spans, k, i, x, change, t);
-                    match plan {
-                        Plan::Nothing(_) => {}
-                        Plan::Lands(l) => {
-                            let none = no_order();
+                    let way = plan.way;
+                    match way {
+                        Way::Nothing => {}
+                        Way::Lands => {
+                            let l = plan.landing;
                             let emptied = l.emptied;
                             let filled = l.filled;
                             let order = l.order;
@@ -182,7 +184,7 @@ impl Book {
                             let next = counted(p, r.lost);
                             places[seat] = next;
                         }
-                        Plan::Steps => {
+                        Way::Steps => {
                             let book = book_of(
                                 places,
                                 seats,

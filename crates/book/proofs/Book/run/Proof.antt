@@ -21,18 +21,18 @@ use Rattle.book.proofs.Book.run.Statement.{statement}
 use Rattle.book.proofs.Book.run.Tie as tie
 
 abbrev Inv-loop : tie.InvT-loop
-Inv-loop s at market kept₀ places₀ seats₀ orders₀ numbers₀ lives₀ spans₀ trades₀ tickets₀ here₀ kept places seats orders numbers lives spans trades tickets here =
+Inv-loop s at market kept₀ places₀ seats₀ orders₀ numbers₀ lives₀ spans₀ trades₀ tickets₀ none here₀ kept places seats orders numbers lives spans trades tickets here =
     Left s here₀ (bookOf places₀ seats₀ orders₀ numbers₀ lives₀ spans₀ trades₀ tickets₀ kept₀) here (bookOf places seats orders numbers lives spans trades tickets kept)
 
 abbrev μ-loop : tie.MeasureT-loop
-μ-loop s at market kept₀ places₀ seats₀ orders₀ numbers₀ lives₀ spans₀ trades₀ tickets₀ here₀ kept places seats orders numbers lives spans trades tickets here = length s - here
+μ-loop s at market kept₀ places₀ seats₀ orders₀ numbers₀ lives₀ spans₀ trades₀ tickets₀ none here₀ kept places seats orders numbers lives spans trades tickets here = length s - here
 
 -- ---- the message reaches so far
-reaches : (m : tie.After-known-told Inv-loop μ-loop) → reachOf (drop (m .before .before .before .before .loop .here) (now (m .before .before .before .before .before .before .before .before .before .before .before .before .before .before .before .before .before .before .args .s))) ≡ done (m .before .reach .given .0 .0)
+reaches : (m : tie.After-known-told Inv-loop μ-loop) → reachOf (drop (m .before .before .before .before .loop .here) (now (m .before .before .before .before .before .before .before .before .before .before .before .before .before .before .before .before .before .before .before .args .s))) ≡ done (m .before .reach .given .0 .0)
 reaches m = sym (m .before .before .before .reach-at .ensures) ∙ ap reachedAs (m .before .reach .given .1)
 
-within : (m : tie.After-known-told Inv-loop μ-loop) → m .before .before .before .before .loop .here + m .before .reach .given .0 .0 ≤ length (now (m .before .before .before .before .before .before .before .before .before .before .before .before .before .before .before .before .before .before .args .s))
-within m = move-within (now (m .before .before .before .before .before .before .before .before .before .before .before .before .before .before .before .before .before .before .args .s)) (m .before .before .before .before .loop .here) (m .before .reach .given .0 .0) (reaches m)
+within : (m : tie.After-known-told Inv-loop μ-loop) → m .before .before .before .before .loop .here + m .before .reach .given .0 .0 ≤ length (now (m .before .before .before .before .before .before .before .before .before .before .before .before .before .before .before .before .before .before .before .args .s))
+within m = move-within (now (m .before .before .before .before .before .before .before .before .before .before .before .before .before .before .before .before .before .before .before .args .s)) (m .before .before .before .before .loop .here) (m .before .reach .given .0 .0) (reaches m)
 
 -- ---- what is planned, of the state that the arrays make
 abbrev state : (k : tie.After-planned Inv-loop μ-loop) → Book
@@ -47,6 +47,9 @@ plans k w =
 
 market-of-requires : tie.Need-market-of-requires Inv-loop μ-loop
 market-of-requires c κs = search needs
+
+no-order-requires : tie.Need-no-order-requires Inv-loop μ-loop
+no-order-requires c κs = search needs
 
 loop-holds : tie.Need-loop-holds Inv-loop μ-loop
 loop-holds c = left-all _ _ _
@@ -76,7 +79,7 @@ enum-known-reach : tie.Need-enum-known-reach Inv-loop μ-loop
 enum-known-reach c = search needs
 
 add-end : tie.Need-add-end Inv-loop μ-loop
-add-end c = omega (arith, within c, c .before .before .before .before .before .before .before .before .before .before .before .before .before .before .before .before .before .before .good)
+add-end c = omega (arith, within c, c .before .before .before .before .before .before .before .before .before .before .before .before .before .before .before .before .before .before .before .good)
 
 sub-decode : tie.Need-sub-decode Inv-loop μ-loop
 sub-decode c = search needs
@@ -137,26 +140,23 @@ loop-again c =
     let k = c .before .before in
     let m = c .before .before .before .before .before .before .before .before .before .before .before .before .before .before .before .before .before .before .before .before .before in
     let q = c .before .before .before .before .before .before .before .before .before .before .before .before .before .before .before .before .before .before .before in
-    turn-on _ _ _ _ _ (c .before .before .before .before .before .before .before .before .before .before .before .before .before .before .before .before .before .before .before .before .before .before .before .before .before .loop .inv) (m .before .reach .given .0 .0) (reaches m) (q .decode .result) _ (m .before .before .before .before .before .before .before .before .before .before .before .before .before .before .before .before .market-of .ensures) (q .decode .ensures .0) (record { book = _; answer = _ })
+    turn-on _ _ _ _ _ (c .before .before .before .before .before .before .before .before .before .before .before .before .before .before .before .before .before .before .before .before .before .before .before .before .before .loop .inv) (m .before .reach .given .0 .0) (reaches m) (q .decode .result) _ (m .before .before .before .before .before .before .before .before .before .before .before .before .before .before .before .before .before .market-of .ensures) (q .decode .ensures .0) (record { book = _; answer = _ })
     (nothing-steps (state k) _ _ (λ w. rw (c .enum-told3 .given .1) at (plans k w)))
 
-enum-known-plan : tie.Need-enum-known-plan Inv-loop μ-loop
-enum-known-plan c = search needs
-
-no-order-requires : tie.Need-no-order-requires Inv-loop μ-loop
-no-order-requires c κs = search needs
+enum-told-4 : tie.Need-enum-told-4 Inv-loop μ-loop
+enum-told-4 c = search needs
 
 mul-orders : tie.Need-mul-orders Inv-loop μ-loop
-mul-orders c = let n = (rw (c .before .before .before .plan .given .1) at (c .before .before .before .before .before .planned .ensures .1)) in omega (arith, n .0)
+mul-orders c = let n = c .before .before .before .before .planned .ensures .1 in omega (arith, n .0)
 
 array-set-from-orders : tie.Need-array-set-from-orders Inv-loop μ-loop
-array-set-from-orders c = let n = (rw (c .before .before .before .plan .given .1) at (c .before .before .before .before .before .planned .ensures .1)) in omega (arith, n .0)
+array-set-from-orders c = let n = c .before .before .before .before .planned .ensures .1 in omega (arith, n .0)
 
 mul-orders-2 : tie.Need-mul-orders-2 Inv-loop μ-loop
-mul-orders-2 c = let n = (rw (c .before .before .before .plan .given .1) at (c .before .before .before .before .before .planned .ensures .1)) in omega (arith, n .1)
+mul-orders-2 c = let n = c .before .before .before .before .planned .ensures .1 in omega (arith, n .1)
 
 array-set-from-orders-2 : tie.Need-array-set-from-orders-2 Inv-loop μ-loop
-array-set-from-orders-2 c = let n = (rw (c .before .before .before .plan .given .1) at (c .before .before .before .before .before .planned .ensures .1)) in omega (arith, n .1)
+array-set-from-orders-2 c = let n = c .before .before .before .before .planned .ensures .1 in omega (arith, n .1)
 
 mirror-requires : tie.Need-mirror-requires Inv-loop μ-loop
 mirror-requires c κs = search needs
@@ -171,62 +171,62 @@ spot-requires-3 : tie.Need-spot-requires-3 Inv-loop μ-loop
 spot-requires-3 c κs = search needs
 
 mul-lies : tie.Need-mul-lies Inv-loop μ-loop
-mul-lies c = omega (arith, c .spot3 .ensures, spot-within tradesEach (c .before .before .before .before .before .before .before .before .before .before .before .before .before .before .before .before .before .before .before .before .before .before .before .before .before .before .before .seat-of .result) (c .before .decided .result .place) (omega arith))
+mul-lies c = omega (arith, c .spot3 .ensures, spot-within tradesEach (c .before .before .before .before .before .before .before .before .before .before .before .before .before .before .before .before .before .before .before .before .before .before .before .before .before .before .seat-of .result) (c .before .decided .result .place) (omega arith))
 
 array-copy-out-lies : tie.Need-array-copy-out-lies Inv-loop μ-loop
-array-copy-out-lies c = omega (arith, c .spot3 .ensures, spot-within tradesEach (c .before .before .before .before .before .before .before .before .before .before .before .before .before .before .before .before .before .before .before .before .before .before .before .before .before .before .before .seat-of .result) (c .before .decided .result .place) (omega arith))
+array-copy-out-lies c = omega (arith, c .spot3 .ensures, spot-within tradesEach (c .before .before .before .before .before .before .before .before .before .before .before .before .before .before .before .before .before .before .before .before .before .before .before .before .before .before .seat-of .result) (c .before .decided .result .place) (omega arith))
 
 trade-or-requires : tie.Need-trade-or-requires Inv-loop μ-loop
 trade-or-requires c κs = search needs
 
 mul-trades : tie.Need-mul-trades Inv-loop μ-loop
-mul-trades c = omega (arith, c .before .before .before .spot3 .ensures, spot-within tradesEach (c .before .before .before .before .before .before .before .before .before .before .before .before .before .before .before .before .before .before .before .before .before .before .before .before .before .before .before .before .before .before .seat-of .result) (c .before .before .before .before .decided .result .place) (omega arith))
+mul-trades c = omega (arith, c .before .before .before .spot3 .ensures, spot-within tradesEach (c .before .before .before .before .before .before .before .before .before .before .before .before .before .before .before .before .before .before .before .before .before .before .before .before .before .before .before .before .before .seat-of .result) (c .before .before .before .before .decided .result .place) (omega arith))
 
 array-set-from-trades : tie.Need-array-set-from-trades Inv-loop μ-loop
-array-set-from-trades c = omega (arith, c .before .before .before .spot3 .ensures, spot-within tradesEach (c .before .before .before .before .before .before .before .before .before .before .before .before .before .before .before .before .before .before .before .before .before .before .before .before .before .before .before .before .before .before .seat-of .result) (c .before .before .before .before .decided .result .place) (omega arith))
+array-set-from-trades c = omega (arith, c .before .before .before .spot3 .ensures, spot-within tradesEach (c .before .before .before .before .before .before .before .before .before .before .before .before .before .before .before .before .before .before .before .before .before .before .before .before .before .before .before .before .before .seat-of .result) (c .before .before .before .before .decided .result .place) (omega arith))
 
 ticket-of-requires : tie.Need-ticket-of-requires Inv-loop μ-loop
 ticket-of-requires c κs = search needs
 
 mul-tickets : tie.Need-mul-tickets Inv-loop μ-loop
-mul-tickets c = omega (arith, c .before .before .before .before .spot3 .ensures, spot-within tradesEach (c .before .before .before .before .before .before .before .before .before .before .before .before .before .before .before .before .before .before .before .before .before .before .before .before .before .before .before .before .before .before .before .seat-of .result) (c .before .before .before .before .before .decided .result .place) (omega arith))
+mul-tickets c = omega (arith, c .before .before .before .before .spot3 .ensures, spot-within tradesEach (c .before .before .before .before .before .before .before .before .before .before .before .before .before .before .before .before .before .before .before .before .before .before .before .before .before .before .before .before .before .before .seat-of .result) (c .before .before .before .before .before .decided .result .place) (omega arith))
 
 array-write-tickets : tie.Need-array-write-tickets Inv-loop μ-loop
-array-write-tickets c = omega (arith, c .before .before .before .before .spot3 .ensures, spot-within tradesEach (c .before .before .before .before .before .before .before .before .before .before .before .before .before .before .before .before .before .before .before .before .before .before .before .before .before .before .before .before .before .before .before .seat-of .result) (c .before .before .before .before .before .decided .result .place) (omega arith))
+array-write-tickets c = omega (arith, c .before .before .before .before .spot3 .ensures, spot-within tradesEach (c .before .before .before .before .before .before .before .before .before .before .before .before .before .before .before .before .before .before .before .before .before .before .before .before .before .before .before .before .before .before .seat-of .result) (c .before .before .before .before .before .decided .result .place) (omega arith))
 
 counted-requires : tie.Need-counted-requires Inv-loop μ-loop
 counted-requires c κs = search needs
 
 mul-places : tie.Need-mul-places Inv-loop μ-loop
-mul-places c = omega (arith, c .before .before .before .before .before .before .before .before .before .before .before .before .before .before .before .before .before .before .before .before .before .before .before .before .before .before .before .before .before .before .before .spot .ensures, spot-within 1 (c .before .before .before .before .before .before .before .before .before .before .before .before .before .before .before .before .before .before .before .before .before .before .before .before .before .before .before .before .before .before .before .before .seat-of .result) 0 (omega arith))
+mul-places c = omega (arith, c .before .before .before .before .before .before .before .before .before .before .before .before .before .before .before .before .before .before .before .before .before .before .before .before .before .before .before .before .before .before .spot .ensures, spot-within 1 (c .before .before .before .before .before .before .before .before .before .before .before .before .before .before .before .before .before .before .before .before .before .before .before .before .before .before .before .before .before .before .before .seat-of .result) 0 (omega arith))
 
 array-set-from-places : tie.Need-array-set-from-places Inv-loop μ-loop
-array-set-from-places c = omega (arith, c .before .before .before .before .before .before .before .before .before .before .before .before .before .before .before .before .before .before .before .before .before .before .before .before .before .before .before .before .before .before .before .spot .ensures, spot-within 1 (c .before .before .before .before .before .before .before .before .before .before .before .before .before .before .before .before .before .before .before .before .before .before .before .before .before .before .before .before .before .before .before .before .seat-of .result) 0 (omega arith))
+array-set-from-places c = omega (arith, c .before .before .before .before .before .before .before .before .before .before .before .before .before .before .before .before .before .before .before .before .before .before .before .before .before .before .before .before .before .before .spot .ensures, spot-within 1 (c .before .before .before .before .before .before .before .before .before .before .before .before .before .before .before .before .before .before .before .before .before .before .before .before .before .before .before .before .before .before .before .seat-of .result) 0 (omega arith))
 
 loop-less-2 : tie.Need-loop-less-2 Inv-loop μ-loop
-loop-less-2 c = let m = c .before .before .before .before .before .before .before .before .before .before .before .before .before .before .before .before .before .before .before .before .before .before .before .before .before .before .before .before .before .before .before .before .before .before .before .before .before in turn-less _ _ _ _ _ (m .before .before .before .before .loop .inv) (m .before .reach .given .0 .0) (reaches m)
+loop-less-2 c = let m = c .before .before .before .before .before .before .before .before .before .before .before .before .before .before .before .before .before .before .before .before .before .before .before .before .before .before .before .before .before .before .before .before .before .before .before .before in turn-less _ _ _ _ _ (m .before .before .before .before .loop .inv) (m .before .reach .given .0 .0) (reaches m)
 
 loop-again-2 : tie.Need-loop-again-2 Inv-loop μ-loop
 loop-again-2 c =
-    let k = c .before .before .before .before .before .before .before .before .before .before .before .before .before .before .before .before .before .before in
-    let m = c .before .before .before .before .before .before .before .before .before .before .before .before .before .before .before .before .before .before .before .before .before .before .before .before .before .before .before .before .before .before .before .before .before .before .before .before .before in
-    let q = c .before .before .before .before .before .before .before .before .before .before .before .before .before .before .before .before .before .before .before .before .before .before .before .before .before .before .before .before .before .before .before .before .before .before .before in
-    turn-on _ _ _ _ _ (c .before .before .before .before .before .before .before .before .before .before .before .before .before .before .before .before .before .before .before .before .before .before .before .before .before .before .before .before .before .before .before .before .before .before .before .before .before .before .before .before .before .loop .inv) (m .before .reach .given .0 .0) (reaches m) (q .decode .result) _ (m .before .before .before .before .before .before .before .before .before .before .before .before .before .before .before .before .market-of .ensures) (q .decode .ensures .0) (record { book = _; answer = 0 })
-    (rw (c .before .before .before .before .before .before .before .before .before .before .before .before .before .before .no-order .ensures)
-    (stores-step (state k) _ (c .before .before .before .before .before .before .before .before .before .before .before .before .before .before .before .before .before .before .before .before .before .before .before .before .before .before .before .before .before .before .before .before .before .before .hear .result) (c .before .before .before .before .before .before .before .before .before .before .before .before .before .before .before .before .before .before .before .before .before .before .before .before .before .before .before .before .before .before .before .before .seat-of .result) (c .before .before .before .before .before .before .decided .result) _ _ _ _ _ _
+    let k = c .before .before .before .before .before .before .before .before .before .before .before .before .before .before .before .before .before in
+    let m = c .before .before .before .before .before .before .before .before .before .before .before .before .before .before .before .before .before .before .before .before .before .before .before .before .before .before .before .before .before .before .before .before .before .before .before .before in
+    let q = c .before .before .before .before .before .before .before .before .before .before .before .before .before .before .before .before .before .before .before .before .before .before .before .before .before .before .before .before .before .before .before .before .before .before in
+    turn-on _ _ _ _ _ (c .before .before .before .before .before .before .before .before .before .before .before .before .before .before .before .before .before .before .before .before .before .before .before .before .before .before .before .before .before .before .before .before .before .before .before .before .before .before .before .before .loop .inv) (m .before .reach .given .0 .0) (reaches m) (q .decode .result) _ (m .before .before .before .before .before .before .before .before .before .before .before .before .before .before .before .before .before .market-of .ensures) (q .decode .ensures .0) (record { book = _; answer = 0 })
+    (rw (c .before .before .before .before .before .before .before .before .before .before .before .before .before .before .before .before .before .before .before .before .before .before .before .before .before .before .before .before .before .before .before .before .before .before .before .before .before .before .before .before .before .no-order .ensures)
+    (stores-step (state k) _ (c .before .before .before .before .before .before .before .before .before .before .before .before .before .before .before .before .before .before .before .before .before .before .before .before .before .before .before .before .before .before .before .before .before .hear .result) (c .before .before .before .before .before .before .before .before .before .before .before .before .before .before .before .before .before .before .before .before .before .before .before .before .before .before .before .before .before .before .before .seat-of .result) (c .before .before .before .before .before .before .decided .result) _ _ _ _ _ _
     (record {
       decides = λ g s w. rw (c .before .before .before .before .before .before .before .deal-of .ensures) at (c .before .before .before .before .before .before .decided .ensures .0 _ g s w);
       slot = c .before .before .before .before .before .spot3 .ensures;
       trade = c .before .before .trade-or .ensures;
       ticket = c .before .ticket-of .ensures;
-      own = c .before .before .before .before .before .before .before .before .before .before .before .before .before .before .before .before .before .before .before .before .before .before .before .before .before .before .before .before .before .before .before .spot .ensures;
+      own = c .before .before .before .before .before .before .before .before .before .before .before .before .before .before .before .before .before .before .before .before .before .before .before .before .before .before .before .before .before .before .spot .ensures;
       lies = refl;
       counted = c .counted .ensures;
     })
-    _ _ (c .before .before .before .before .before .before .before .before .before .mirror .ensures) (λ w. rw (c .before .before .before .before .before .before .before .before .before .before .before .before .before .before .before .before .plan .given .1) at (plans k w))))
+    _ _ (c .before .before .before .before .before .before .before .before .before .mirror .ensures) (λ w. rw (c .before .before .before .before .before .before .before .before .before .before .before .before .before .before .before .enum-told4 .given .1) at (plans k w))))
 
-enum-told-4 : tie.Need-enum-told-4 Inv-loop μ-loop
-enum-told-4 c = search needs
+enum-told-5 : tie.Need-enum-told-5 Inv-loop μ-loop
+enum-told-5 c = search needs
 
 book-of-requires-3 : tie.Need-book-of-requires-3 Inv-loop μ-loop
 book-of-requires-3 c κs = search needs
@@ -242,7 +242,7 @@ loop-again-3 c =
     let k = c .before .before .before .before .before .before .before .before .before .before .before .before .before .before .before .before in
     let m = c .before .before .before .before .before .before .before .before .before .before .before .before .before .before .before .before .before .before .before .before .before .before .before .before .before .before .before .before .before .before .before .before .before .before .before in
     let q = c .before .before .before .before .before .before .before .before .before .before .before .before .before .before .before .before .before .before .before .before .before .before .before .before .before .before .before .before .before .before .before .before .before in
-    turn-on _ _ _ _ _ (c .before .before .before .before .before .before .before .before .before .before .before .before .before .before .before .before .before .before .before .before .before .before .before .before .before .before .before .before .before .before .before .before .before .before .before .before .before .before .before .loop .inv) (m .before .reach .given .0 .0) (reaches m) (q .decode .result) _ (m .before .before .before .before .before .before .before .before .before .before .before .before .before .before .before .before .market-of .ensures) (q .decode .ensures .0) (record { book = _; answer = _ })
+    turn-on _ _ _ _ _ (c .before .before .before .before .before .before .before .before .before .before .before .before .before .before .before .before .before .before .before .before .before .before .before .before .before .before .before .before .before .before .before .before .before .before .before .before .before .before .before .loop .inv) (m .before .reach .given .0 .0) (reaches m) (q .decode .result) _ (m .before .before .before .before .before .before .before .before .before .before .before .before .before .before .before .before .before .market-of .ensures) (q .decode .ensures .0) (record { book = _; answer = _ })
     (rw (c .before .before .before .before .before .before .before .before .before .before .before .before .before .book-of3 .ensures) at (c .before .before .before .before .before .before .before .before .before .before .before .before .step .ensures .0))
 
 pub run-spec : {M : Type 1} → statement M
@@ -252,6 +252,7 @@ run-spec =
     Inv-loop
     μ-loop
     market-of-requires
+    no-order-requires
     loop-holds
     reach-at-requires
     enum-told
@@ -281,8 +282,7 @@ run-spec =
     enum-told-3
     loop-less
     loop-again
-    enum-known-plan
-    no-order-requires
+    enum-told-4
     mul-orders
     array-set-from-orders
     mul-orders-2
@@ -304,7 +304,7 @@ run-spec =
     array-set-from-places
     loop-less-2
     loop-again-2
-    enum-told-4
+    enum-told-5
     book-of-requires-3
     step-requires
     loop-less-3
