@@ -41,7 +41,7 @@ extern "C" {
 #endif
 
 /* How large a book is. The number stands here alone; a host compiled with another one is to be compiled anew. */
-#define PAINTEREND_BOOK_BYTES 43016
+#define PAINTEREND_BOOK_BYTES 42952
 
 #if PAINTEREND_BOOK_BYTES % 8 != 0
 #error "a book is made of whole words of 8 bytes"

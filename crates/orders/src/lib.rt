@@ -32,11 +32,11 @@ pub const PLACES: usize = SYMBOLS * ORDERS;
 // A place for an order: empty, or a live one.
 #[repr(C)]
 pub struct Order {
-    live: bool,
-    buy: bool,
     number: u64,
     price: u32,
     volume: u32,
+    live: bool,
+    buy: bool,
 }
 
 // The orders, and what searches read of them: their numbers, whether each is live, and, for each home of each symbol, how many places from it on may hold an order of it.

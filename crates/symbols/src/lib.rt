@@ -31,12 +31,12 @@ pub struct Standing {
 // A place of registration: empty, or a symbol's. The name is padded with zeros.
 #[repr(C)]
 pub struct Place {
-    used: bool,
-    index: u32,
-    name: [u8; NAME],
     len: usize,
+    name: [u8; NAME],
     scale: u8,
+    index: u32,
     standing: Standing,
+    used: bool,
 }
 
 // The places, and what a search by index reads of them: at each place its symbol's index and one, or 0 where it is empty.
