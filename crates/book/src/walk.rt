@@ -117,11 +117,7 @@ impl Book {
                         tickets,
                         kept,
                     );
-                    return Ran {
-                        book,
-                        at: here,
-                        answer: 1,
-                    };
+                    return ended(book, here, 1);
                 }
                 Reach::Small => {
                     let book = book_of(
@@ -135,11 +131,7 @@ impl Book {
                         tickets,
                         kept,
                     );
-                    return Ran {
-                        book,
-                        at: here,
-                        answer: 2,
-                    };
+                    return ended(book, here, 2);
                 }
                 Reach::Size(size) => {
                     let end = here + size;
@@ -252,4 +244,10 @@ fn book_of(
         trades,
         market,
     }
+}
+
+fn ended(book: Book, at: usize, answer: u8) -> Ran
+    ensures { λ r. ⌜ r ≡ record { book = book; at = at; answer = answer } ⌝ }
+{
+    Ran { book, at, answer }
 }

@@ -63,8 +63,11 @@ enum-told c = search needs
 book-of-requires : tie.Need-book-of-requires Inv-loop μ-loop
 book-of-requires c κs = search needs
 
+ended-requires : tie.Need-ended-requires Inv-loop μ-loop
+ended-requires c κs = search needs
+
 returns : tie.Need-returns Inv-loop μ-loop
-returns c = rw (c .book-of .ensures) (turn-stops _ _ _ _ _ (c .before .before .before .before .loop .inv) 1 (sym (c .before .before .before .reach-at .ensures) ∙ ap reachedAs (c .before .enum-told .given .1)))
+returns c = rw (c .ended .ensures, c .before .book-of .ensures) (turn-stops _ _ _ _ _ (c .before .before .before .before .before .loop .inv) 1 (sym (c .before .before .before .before .reach-at .ensures) ∙ ap reachedAs (c .before .before .enum-told .given .1)))
 
 enum-told-2 : tie.Need-enum-told-2 Inv-loop μ-loop
 enum-told-2 c = search needs
@@ -72,8 +75,11 @@ enum-told-2 c = search needs
 book-of-requires-2 : tie.Need-book-of-requires-2 Inv-loop μ-loop
 book-of-requires-2 c κs = search needs
 
+ended-requires-2 : tie.Need-ended-requires-2 Inv-loop μ-loop
+ended-requires-2 c κs = search needs
+
 returns-2 : tie.Need-returns-2 Inv-loop μ-loop
-returns-2 c = rw (c .book-of2 .ensures) (turn-stops _ _ _ _ _ (c .before .before .before .before .loop .inv) 2 (sym (c .before .before .before .reach-at .ensures) ∙ ap reachedAs (c .before .enum-told2 .given .1)))
+returns-2 c = rw (c .ended2 .ensures, c .before .book-of2 .ensures) (turn-stops _ _ _ _ _ (c .before .before .before .before .before .loop .inv) 2 (sym (c .before .before .before .before .reach-at .ensures) ∙ ap reachedAs (c .before .before .enum-told2 .given .1)))
 
 enum-known-reach : tie.Need-enum-known-reach Inv-loop μ-loop
 enum-known-reach c = search needs
@@ -257,9 +263,11 @@ run-spec =
     reach-at-requires
     enum-told
     book-of-requires
+    ended-requires
     returns
     enum-told-2
     book-of-requires-2
+    ended-requires-2
     returns-2
     enum-known-reach
     add-end
