@@ -13,3 +13,4 @@ pub mod Examples
 pub mod TwoMarkets
 pub mod Unfaithful
 pub mod EveryNumber
+pub mod Lent

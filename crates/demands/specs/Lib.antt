@@ -6,3 +6,4 @@ pub mod Demand2
 pub mod OneOutcome
 pub mod Messages
 pub mod Examples
+pub mod Lent
