@@ -1,6 +1,6 @@
 // The live orders of eight symbols, 64 places each: what a change does to them, and the best of each side.
 //
-// Nothing here knows of messages, of a message's number or of trades. The orders are taken by value and the next ones are handed back.
+// Nothing here knows of messages, of a message's number or of trades. The orders are taken by value and the next ones are handed back; the run of a book lends single arrays.
 mod changes;
 mod landing;
 mod levels;
