@@ -1,25 +1,27 @@
 -- A move goes by the Msg Size, within the bytes, so a walk has messages enough to spare; the run's loop has walked some of it and has the rest to go.
 use mathlib.Core.Bool.{true, false, true≢false, false≢true}
-use mathlib.Core.List.{List, [], _∷_, _++_}
+use mathlib.Core.List.{List, [], _∷_, _++_, append-nil}
 use mathlib.Core.Path.{_≡_, refl, sym, ap, _∙_}
 use Prim.Native.Nat.{ℕ, zero, suc, _+_, _-_, _<_, _≤_}
 use native.Mathlib.Omega.{arith}
-use native.Mathlib.Nat.{not-suc-le-zero, add-sub-cancel-left}
-use lib.ListN.{length, take, drop, length-drop}
+use native.Mathlib.Nat.{add-zero, zero-add, add-suc, suc-add, add-sub-cancel-left}
+use lib.ListN.{length, take, drop, set, length-append, length-drop}
+use lib.Seq.{append-snoc, drop-drop, drop-set-lt, sets}
 use Rattle.wire.specs.Outcome.{Outcome, done, refused, numberOf}
 use Rattle.wire.specs.Reading.{Read, reachOf, readOf, decodedAs}
 use Rattle.wire.specs.declared.Decoded.{Decoded}
 use Rattle.wire.proofs.Cases.{reached}
-use Rattle.book.specs.State.{View, view, Wf}
+use Rattle.book.specs.State.{View, Next, view, Wf}
 use Rattle.book.specs.Step.{stepOf, stepIn}
 use Rattle.book.specs.Promises.{Steps}
-use Rattle.book.specs.Walk.{landing, stopping, offsetBy, moveOf, walkFor, walkOf, stepsOf, runOf, Moves, Runs}
+use Rattle.book.specs.Walk.{Walk, landing, stopping, offsetBy, moveOf, walkFor, walkUpTo, walkOf, stepsOf, answersOf, runOf, Moves, Runs, NotesUpTo}
 use Rattle.markets.specs.Numbers.{marketOf}
 use Rattle.markets.specs.declared.Market.{Market}
 use Rattle.book.specs.declared.Book.{Book}
 use Rattle.book.specs.declared.Done.{Done}
 use Rattle.book.specs.declared.step.Stepped.{Stepped}
 use Rattle.book.specs.declared.walk.Moved.{Moved}
+use Rattle.book.specs.declared.walk.Noted.{Noted}
 use Rattle.book.proofs.Views.{view-market}
 
 -- ---- one message
@@ -59,23 +61,6 @@ unfolding stepsOf
 steps-join v [] ns = refl
 steps-join v (m ∷ ms) ns = steps-join (stepIn v m .view) ms ns
 
--- from here on there is so much of the walk to go
-pub record Left (s : List ℕ) (from : ℕ) (b : Book) (at : ℕ) (c : Book) : Type 0 where
-  pub fuel : ℕ
-  pub enough : length s < at + fuel
-  pub some : 0 < fuel
-  pub same-end : walkFor fuel s at .at ≡ walkOf s from .at
-  pub same-answer : walkFor fuel s at .answer ≡ walkOf s from .answer
-  pub passed : from ≤ at
-  pub still : at ≡ from → c ≡ b
-  pub same-market : view c .market ≡ view b .market
-  pub sound : Wf b → Wf c
-  pub same-view : Wf b → stepsOf (view c) (walkFor fuel s at .messages) ≡ stepsOf (view b) (walkOf s from .messages)
-
-pub left-all : (s : List ℕ) (from : ℕ) (b : Book) → Left s from b from b
-unfolding walkOf
-left-all s from b = record { fuel = suc (length s); enough = omega arith; some = omega arith; same-end = refl; same-answer = refl; passed = omega arith; still = λ e. refl; same-market = refl; sound = λ w. w; same-view = λ w. refl }
-
 module _ (c : Book) (s : List ℕ) (at : ℕ) (r : Moved) (m : Moves c s at r) where
   -- whether it stopped, by what reaches from here
   stops-by : (x : Outcome ℕ) → reachOf (drop at s) ≡ x → r .stops ≡ stopping x
@@ -102,60 +87,155 @@ module _ (c : Book) (s : List ℕ) (at : ℕ) (r : Moved) (m : Moves c s at r) w
       go (refused a) e = absurd (true≢false (sym (stops-by (refused a) e) ∙ f))
       go (done n) e = m .offset ∙ ap (λ (x : Outcome ℕ). offsetBy x (view c .market) s at) e ∙ ap (λ (t : List ℕ). readOf (view c .market) t .offset) (sym (passed-bytes n e))
 
-  module _ (from : ℕ) (b : Book) where
-    pub left-on : r .stops ≡ false → Left s from b at c → Left s from b (r .at) (r .book)
-    unfolding walkFor stepsOf moveOf
-    left-on f l = go (reachOf (drop at s)) refl (l .fuel) (l .enough) (l .same-end) (l .same-answer) (l .same-view)
-      where
-        go : (x : Outcome ℕ) → reachOf (drop at s) ≡ x → (g : ℕ) → length s < at + g → walkFor g s at .at ≡ walkOf s from .at → walkFor g s at .answer ≡ walkOf s from .answer
-            → (Wf b → stepsOf (view c) (walkFor g s at .messages) ≡ stepsOf (view b) (walkOf s from .messages)) → Left s from b (r .at) (r .book)
-        go (refused a) e g h p q v = absurd (true≢false (sym (stops-by (refused a) e) ∙ f))
-        go (done n) e zero h p q v = absurd (omega (arith, move-within s at n e))
-        go (done n) e (suc g) h p q v =
-            let least = reached (drop at s) n e .least in
-            let to : r .at ≡ at + n = m .at ∙ ap (λ (x : Outcome ℕ). landing x at) e in
-            record {
-              fuel = g;
-              enough = omega (arith, h);
-              some = omega (arith, h, move-within s at n e);
-              same-end = rw to (rw e at p);
-              same-answer = rw to (rw e at q);
-              passed = omega (arith, l .passed);
-              still = λ z. absurd (omega (arith, l .passed, z));
-              same-market = m .market ∙ l .same-market;
-              sound = λ w. m .obeys (l .sound w) .wf;
-              same-view = λ w. rw (to, m .obeys (l .sound w) .next-view, e) (rw e at (v w));
-            }
+-- ---- answers
+length-answers : (v : View) (ms : List (List ℕ)) → length (answersOf v ms) ≡ length ms
+unfolding answersOf
+length-answers v [] = refl
+length-answers v (m ∷ ms) = ap suc (length-answers (stepIn v m .view) ms)
 
-    pub left-end : r .stops ≡ true → Left s from b at c → Runs b s from (record { book = r .book; at = r .at; answer = r .answer })
-    unfolding walkFor stepsOf moveOf runOf
-    left-end t l = go (reachOf (drop at s)) refl (l .fuel) (l .some) (l .same-end) (l .same-answer) (l .same-view)
-      where
-        go : (x : Outcome ℕ) → reachOf (drop at s) ≡ x → (g : ℕ) → 0 < g → walkFor g s at .at ≡ walkOf s from .at → walkFor g s at .answer ≡ walkOf s from .answer
-            → (Wf b → stepsOf (view c) (walkFor g s at .messages) ≡ stepsOf (view b) (walkOf s from .messages)) → Runs b s from (record { book = r .book; at = r .at; answer = r .answer })
-        go (done n) e g h p q v = absurd (false≢true (sym (stops-by (done n) e) ∙ t))
-        go (refused a) e zero h p q v = absurd (not-suc-le-zero h)
-        go (refused a) e (suc g) h p q v =
-            let to : r .at ≡ at = m .at ∙ ap (λ (x : Outcome ℕ). landing x at) e in
-            let number : r .answer ≡ a = ap (λ (x : Moved). x .answer) (m .stopped t) ∙ ap (numberOf {A = ℕ}) e in
-            record {
-              at = to ∙ (rw e at p);
-              answer = number ∙ (rw e at q);
-              market = m .market ∙ l .same-market;
-              kept = λ z. ap (λ (x : Moved). x .book) (m .stopped t) ∙ l .still (sym to ∙ z);
-              obeys = λ w. record { wf = m .obeys (l .sound w) .wf; next-view = m .obeys (l .sound w) .next-view ∙ (rw e (rw e at (v w))); answer = number ∙ (rw e at q) };
-            }
+answers-join : (v : View) (ms : List (List ℕ)) (m : List ℕ) → answersOf v (ms ++ (m ∷ [])) ≡ answersOf v ms ++ (stepIn (stepsOf v ms) m .answer ∷ [])
+unfolding answersOf stepsOf
+answers-join v [] m = refl
+answers-join v (x ∷ ms) m = ap (λ (l : List ℕ). stepIn v x .answer ∷ l) (answers-join (stepIn v x .view) ms m)
 
--- ---- a turn of the run: what reaches from here stops it, or is done and the walk goes on
-module _ (s : List ℕ) (from : ℕ) (b : Book) (at : ℕ) (c : Book) (l : Left s from b at c) where
-  pub turn-stops : (a : ℕ) → reachOf (drop at s) ≡ refused a → Runs b s from (record { book = c; at = at; answer = a })
-  turn-stops a e = left-end c s at _ (move-stops c s at a e) from b refl l
+sets-snoc : (l : List ℕ) (i : ℕ) (vs : List ℕ) (a : ℕ) → sets l i (vs ++ (a ∷ [])) ≡ set (sets l i vs) (i + length vs) a
+sets-snoc l i [] a = ap (λ (j : ℕ). set l j a) (sym (add-zero i))
+sets-snoc l i (v ∷ vs) a = sets-snoc (set l i v) (suc i) vs a ∙ ap (λ (j : ℕ). set (sets (set l i v) (suc i) vs) j a) (suc-add i (length vs) ∙ sym (add-suc i (length vs)))
+
+drop-one : (n : ℕ) (l : List ℕ) → drop (n + 1) l ≡ drop 1 (drop n l)
+drop-one n l = sym (drop-drop 1 n l)
+
+-- ---- so many messages of a walk are passed, and at most so many are to go
+pub record Left (s : List ℕ) (from most : ℕ) (before : List ℕ) (b : Book) (at count : ℕ) (notes : List ℕ) (c : Book) : Type 0 where
+  pub fuel : ℕ
+  pub spent : count + fuel ≡ most
+  pub passed : List (List ℕ)
+  pub counted : length passed ≡ count
+  pub same-end : walkUpTo fuel s at .at ≡ walkUpTo most s from .at
+  pub same-answer : walkUpTo fuel s at .answer ≡ walkUpTo most s from .answer
+  pub split : passed ++ walkUpTo fuel s at .messages ≡ walkUpTo most s from .messages
+  pub onward : from ≤ at
+  pub still : at ≡ from → c ≡ b
+  pub same-market : view c .market ≡ view b .market
+  pub beyond : drop count notes ≡ drop count before
+  pub sound : Wf b → Wf c
+  pub same-view : Wf b → view c ≡ stepsOf (view b) passed
+  pub noted : Wf b → notes ≡ sets before 0 (answersOf (view b) passed)
+
+pub left-all : (s : List ℕ) (from most : ℕ) (before : List ℕ) (b : Book) → Left s from most before b from 0 before b
+unfolding stepsOf answersOf
+left-all s from most before b = record {
+  fuel = most;
+  spent = zero-add most;
+  passed = [];
+  counted = refl;
+  same-end = refl;
+  same-answer = refl;
+  split = refl;
+  onward = omega arith;
+  still = λ e. refl;
+  same-market = refl;
+  beyond = refl;
+  sound = λ w. w;
+  same-view = λ w. refl;
+  noted = λ w. refl;
+}
+
+module _ (s : List ℕ) (from most : ℕ) (before : List ℕ) (b : Book) (at count : ℕ) (notes : List ℕ) (c : Book) (l : Left s from most before b at count notes c) where
+  -- nothing more: of the walk nothing is to go
+  ends : (a : ℕ) → walkUpTo (l .fuel) s at ≡ record { messages = []; at = at; answer = a } → NotesUpTo b s from most before (record { book = c; at = at; answer = a; count = count }) notes
+  ends a e =
+      let whole : l .passed ≡ walkUpTo most s from .messages = sym (append-nil (l .passed)) ∙ (rw e at (l .split)) in
+      record {
+        at = rw e at (l .same-end);
+        answer = rw e at (l .same-answer);
+        count = sym (l .counted) ∙ ap (λ (ms : List (List ℕ)). length ms) whole;
+        market = l .same-market;
+        kept = l .still;
+        beyond = l .beyond;
+        obeys = λ w. record { wf = l .sound w; next-view = l .same-view w ∙ ap (stepsOf (view b)) whole; noted = l .noted w ∙ ap (λ (ms : List (List ℕ)). sets before 0 (answersOf (view b) ms)) whole };
+      }
+
+  pub turn-stops : (a : ℕ) → reachOf (drop at s) ≡ refused a → NotesUpTo b s from most before (record { book = c; at = at; answer = a; count = count }) notes
+  unfolding walkUpTo
+  turn-stops a e = ends a (go (l .fuel))
+    where
+      go : (f : ℕ) → walkUpTo f s at ≡ record { messages = []; at = at; answer = a }
+      go zero = rw e
+      go (suc f) = rw e
 
   module _ (n : ℕ) (e : reachOf (drop at s) ≡ done n) where
+    -- as many as there may be
+    pub turn-full : most ≤ count → NotesUpTo b s from most before (record { book = c; at = at; answer = 15; count = count }) notes
+    unfolding walkUpTo
+    turn-full h = ends 15 (go (l .fuel) (l .spent))
+      where
+        go : (f : ℕ) → count + f ≡ most → walkUpTo f s at ≡ record { messages = []; at = at; answer = 15 }
+        go zero z = rw e
+        go (suc f) z = absurd (omega (arith, z, h))
+
     pub turn-less : length s - (at + n) < length s - at
     turn-less = omega (arith, move-within s at n e, reached (drop at s) n e .least)
 
-    pub turn-on : (d : Decoded) (market : Market) → market ≡ marketOf (b .market) → decodedAs d ≡ readOf market (take (at + n - at) (drop at s)) → (r : Done) → Steps c (stepOf (view c) (decodedAs d)) r → Left s from b (at + n) (r .book)
-    turn-on d market is q r p =
-        let read = q ∙ (λ i. readOf ((is ∙ sym (view-market b) ∙ sym (l .same-market)) i) (take (add-sub-cancel-left at n i) (drop at s))) in
-        left-on c s at _ (move-goes c s at n e d (record { book = r .book; answer = r .answer; offset = decodedAs d .offset }) read p refl) from b refl l
+    -- one more is done
+    module _ (d : Decoded) (market : Market) (is : market ≡ marketOf (b .market)) (q : decodedAs d ≡ readOf market (take (at + n - at) (drop at s))) (r : Done) (p : Steps c (stepOf (view c) (decodedAs d)) r) (fresh : count < most) where
+      abbrev message : List ℕ
+      message = take n (drop at s)
+
+      read : stepOf (view c) (decodedAs d) ≡ stepIn (view c) message
+      read = ap (stepOf (view c)) (q ∙ (λ i. readOf ((is ∙ sym (view-market b) ∙ sym (l .same-market)) i) (take (add-sub-cancel-left at n i) (drop at s))))
+
+      step-is : Wf b → stepOf (view c) (decodedAs d) ≡ stepIn (stepsOf (view b) (l .passed)) message
+      step-is w = read ∙ ap (λ (v : View). stepIn v message) (l .same-view w)
+
+      pub turn-on : Left s from most before b (at + n) (count + 1) (set notes count (r .answer)) (r .book)
+      unfolding walkUpTo stepsOf
+      turn-on = go (l .fuel) (l .spent) (l .same-end) (l .same-answer) (l .split)
+        where
+          go : (f : ℕ) → count + f ≡ most → walkUpTo f s at .at ≡ walkUpTo most s from .at → walkUpTo f s at .answer ≡ walkUpTo most s from .answer → l .passed ++ walkUpTo f s at .messages ≡ walkUpTo most s from .messages
+              → Left s from most before b (at + n) (count + 1) (set notes count (r .answer)) (r .book)
+          go zero z x y t = absurd (omega (arith, z, fresh))
+          go (suc g) z x y t = record {
+            fuel = g;
+            spent = omega (arith, z);
+            passed = l .passed ++ (message ∷ []);
+            counted = length-append (l .passed) (message ∷ []) ∙ ap (λ (j : ℕ). j + 1) (l .counted);
+            same-end = (rw e at x);
+            same-answer = (rw e at y);
+            split = append-snoc (l .passed) message (walkUpTo g s (at + n) .messages) ∙ (rw e at t);
+            onward = omega (arith, l .onward);
+            still = λ same. absurd (omega (arith, l .onward, same, reached (drop at s) n e .least));
+            same-market = p .market ∙ l .same-market;
+            beyond = drop-set-lt (count + 1) notes count (r .answer) (omega arith) ∙ drop-one count notes ∙ ap (drop 1) (l .beyond) ∙ sym (drop-one count before);
+            sound = λ w. p .obeys (l .sound w) .wf;
+            same-view = λ w. p .obeys (l .sound w) .next-view ∙ ap (λ (y : Next). y .view) (step-is w) ∙ sym (steps-join (view b) (l .passed) (message ∷ []));
+            noted = λ w.
+                let told : r .answer ≡ stepIn (stepsOf (view b) (l .passed)) message .answer = p .obeys (l .sound w) .answer ∙ ap (λ (y : Next). y .answer) (step-is w) in
+                rw (told, l .noted w) (sym (ap (sets before 0) (answers-join (view b) (l .passed) message) ∙ sets-snoc before 0 (answersOf (view b) (l .passed)) _ ∙ ap (λ (j : ℕ). set (sets before 0 (answersOf (view b) (l .passed))) j (stepIn (stepsOf (view b) (l .passed)) message .answer)) (zero-add (length (answersOf (view b) (l .passed))) ∙ length-answers (view b) (l .passed) ∙ l .counted)));
+          }
+
+-- ---- a walk of at most as many messages as there are bytes is the whole walk
+walk-by : (s : List ℕ) (f g at : ℕ) (x : Outcome ℕ) → reachOf (drop at s) ≡ x → length s ≤ at + f → length s < at + g → 0 < g → walkUpTo f s at ≡ walkFor g s at
+unfolding walkUpTo walkFor
+walk-by s f zero at x e h i pos = absurd (omega (arith, pos))
+walk-by s zero (suc g) at (refused a) e h i pos = rw e
+walk-by s (suc f) (suc g) at (refused a) e h i pos = rw e
+walk-by s zero (suc g) at (done n) e h i pos = absurd (omega (arith, h, move-within s at n e, reached (drop at s) n e .least))
+walk-by s (suc f) (suc g) at (done n) e h i pos =
+    let least = reached (drop at s) n e .least in
+    rw e (ap (λ (w : Walk). record { messages = take n (drop at s) ∷ w .messages; at = w .at; answer = w .answer }) (walk-by s f g (at + n) (reachOf (drop (at + n) s)) refl (omega (arith, h, least)) (omega (arith, i, least)) (omega (arith, i, move-within s at n e, least))))
+
+walk-enough : (s : List ℕ) (f g at : ℕ) → length s ≤ at + f → length s < at + g → 0 < g → walkUpTo f s at ≡ walkFor g s at
+walk-enough s f g at = walk-by s f g at (reachOf (drop at s)) refl
+
+pub runs-all : (b : Book) (s : List ℕ) (from most : ℕ) (before : List ℕ) (r : Noted) (after : List ℕ) → length s ≤ most → NotesUpTo b s from most before r after → Runs b s from (record { book = r .book; at = r .at; answer = r .answer })
+unfolding walkOf runOf
+runs-all b s from most before r after h p =
+    let e : walkUpTo most s from ≡ walkOf s from = walk-enough s most (suc (length s)) from (omega (arith, h)) (omega arith) (omega arith) in
+    record {
+      at = p .at ∙ ap (λ (w : Walk). w .at) e;
+      answer = p .answer ∙ ap (λ (w : Walk). w .answer) e;
+      market = p .market;
+      kept = p .kept;
+      obeys = λ w. record { wf = p .obeys w .wf; next-view = p .obeys w .next-view ∙ ap (λ (x : Walk). stepsOf (view b) (x .messages)) e; answer = p .answer ∙ ap (λ (x : Walk). x .answer) e };
+    }

@@ -18,6 +18,7 @@ pub use quote::Volume;
 use record::Record;
 use symbols::Symbols;
 pub use walk::Moved;
+pub use walk::Noted;
 pub use walk::Ran;
 ghost use mathlib.Core.Path.{_≡_};
 ghost use Rattle.book.specs.State.{view, Fresh};

@@ -25,7 +25,8 @@ use symbols::counted;
 use wire::Reach;
 ghost use mathlib.Core.Path.{_≡_};
 ghost use Rattle.book.specs.Planning.{bookOf};
-ghost use Rattle.book.specs.Walk.{Moves, Runs};
+ghost use lib.ListN.{set};
+ghost use Rattle.book.specs.Walk.{Moves, Runs, NotesUpTo, Notes};
 
 // One message of a stream: the next state, where the next message starts, the answer, and whether a run stops here. Beside a 4 stands the offset in the message of
 // its first bad field, beside any other answer 0.
@@ -42,6 +43,14 @@ pub struct Ran {
     pub book: Book,
     pub at: usize,
     pub answer: u8,
+}
+
+// A run that notes answers: besides, how many messages it passed. The answer is 15 where it passed as many as it may and there is one more.
+pub struct Noted {
+    pub book: Book,
+    pub at: usize,
+    pub answer: u8,
+    pub count: usize,
 }
 
 impl Book {
@@ -82,10 +91,33 @@ impl Book {
         }
     }
 
-    // Applies the messages from a position on, until answer 1 or a Msg Size below 4. The state stands in locals, array by array: a message stores single places of them, and what changes
-    // nothing copies nothing.
+    // Applies the messages from a position on, until answer 1 or a Msg Size below 4.
     pub fn run(self, s: &[u8], at: usize) -> Ran
         ensures { λ r. ⌜ Runs self (now (s .entry)) at r ⌝ }
+    {
+        let mut one = [0u8; 1];
+        let notes: &mut [u8] = &mut one;
+        let r = self.going(s, at, notes, usize::MAX);
+        let book = r.book;
+        Ran {
+            book,
+            at: r.at,
+            answer: r.answer,
+        }
+    }
+
+    // The same, with the answer of each message noted: as many messages as there is room for. Where there is one more the answer is 15.
+    pub fn run_noted(self, s: &[u8], at: usize, notes: &mut [u8]) -> Noted
+        ensures { λ r. ⌜ Notes self (now (s .entry)) at (now (notes .entry)) r (now (notes .exit)) ⌝ }
+    {
+        let most = notes.len();
+        self.going(s, at, notes, most)
+    }
+
+    // At most so many messages, noted as far as there is room. The state stands in locals, array by array: a message stores single places of them, and a numbered one that changes nothing
+    // copies nothing.
+    fn going(self, s: &[u8], at: usize, notes: &mut [u8], most: usize) -> Noted
+        ensures { λ r. ⌜ NotesUpTo self (now (s .entry)) at most (now (notes .entry)) r (now (notes .exit)) ⌝ }
     {
         let market = markets::market_of(self.market);
         let mut kept = self.market;
@@ -102,6 +134,7 @@ impl Book {
         let mut tickets = record.tickets;
         let none = no_order();
         let mut here = at;
+        let mut count: usize = 0;
         loop {
             let reach = wire::reach_at(s, here);
             match reach {
@@ -117,7 +150,7 @@ impl Book {
                         tickets,
                         kept,
                     );
-                    return ended(book, here, 1);
+                    return noting(book, here, 1, count);
                 }
                 Reach::Small => {
                     let book = book_of(
@@ -131,12 +164,28 @@ impl Book {
                         tickets,
                         kept,
                     );
-                    return ended(book, here, 2);
+                    return noting(book, here, 2, count);
                 }
                 Reach::Size(size) => {
+                    if most <= count {
+                        let book = book_of(
+                            places,
+                            seats,
+                            orders,
+                            numbers,
+                            lives,
+                            spans,
+                            trades,
+                            tickets,
+                            kept,
+                        );
+                        return noting(book, here, 15, count);
+                    }
                     let end = here + size;
                     let d = wire::decode(market, &s[here..end]);
                     here = end;
+                    let j = count;
+                    count += 1;
                     let h = hear(d);
                     let k = seat_of(&seats, h);
                     let seat = spot(k, 1, 0);
@@ -149,7 +198,7 @@ impl Book {
                     let plan = planned(&numbers, &lives, &spans, k, i, x, change, t);
                     let way = plan.way;
                     match way {
-                        Way::Nothing => {}
+                        Way::Nothing => note(notes, j, plan.answer),
                         Way::Lands => {
                             let l = plan.landing;
                             let emptied = l.emptied;
@@ -175,6 +224,7 @@ impl Book {
                             tickets[slot] = ticket_of(trade);
                             let next = counted(p, r.lost);
                             places[seat] = next;
+                            note(notes, j, 0);
                         }
                         Way::Steps => {
                             let book = book_of(
@@ -202,6 +252,7 @@ impl Book {
                             let record = next.trades;
                             trades = record.places;
                             tickets = record.tickets;
+                            note(notes, j, r.answer);
                         }
                     }
                 }
@@ -246,8 +297,22 @@ fn book_of(
     }
 }
 
-fn ended(book: Book, at: usize, answer: u8) -> Ran
-    ensures { λ r. ⌜ r ≡ record { book = book; at = at; answer = answer } ⌝ }
+fn noting(book: Book, at: usize, answer: u8, count: usize) -> Noted
+    ensures { λ r. ⌜ r ≡ record { book = book; at = at; answer = answer; count = count } ⌝ }
 {
-    Ran { book, at, answer }
+    Noted {
+        book,
+        at,
+        answer,
+        count,
+    }
+}
+
+// Where there is room for it.
+fn note(notes: &mut [u8], i: usize, answer: u8)
+    ensures { λ _. ⌜ now (notes .exit) ≡ set (now (notes .entry)) i answer ⌝ }
+{
+    if i < notes.len() {
+        notes[i] = answer;
+    }
 }

@@ -1,0 +1,368 @@
+-- The state stands in locals, array by array: what is left of the walk from here gives what the walk from the start gives. Each turn is a step of the state that the arrays make.
+use mathlib.Core.Path.{_≡_, refl, sym, ap, _∙_}
+use Prim.Native.Nat.{ℕ, _+_, _-_, _≤_}
+use native.Mathlib.Omega.{arith}
+use denote.Ref.{now}
+use lib.ListN.{length, getD, drop, length-set}
+use Rattle.wire.specs.Outcome.{done}
+use Rattle.wire.specs.Reading.{reachedAs, reachOf, decodedAs}
+use Rattle.places.proofs.Landing.{spot-within}
+use Rattle.symbols.specs.State.{nowhere}
+use Rattle.orders.specs.State.{ordersEach, noOrder}
+use Rattle.orders.proofs.Finding.{searchable}
+use Rattle.record.specs.State.{tradesEach, noTrade}
+use Rattle.book.specs.State.{Wf}
+use Rattle.book.specs.Planning.{bookOf, Plans}
+use Rattle.book.specs.declared.Book.{Book}
+use Rattle.book.proofs.Walking.{Left, left-all, move-within, turn-stops, turn-full, turn-less, turn-on}
+use Rattle.book.proofs.Planning.{sits, own-seat, nothing-steps, stores-step}
+use borrow.Author.Needs.{needs}
+use Rattle.book.proofs.Book.going.Statement.{statement}
+use Rattle.book.proofs.Book.going.Tie as tie
+
+abbrev Inv-loop : tie.InvT-loop
+Inv-loop s at notes₀ most market kept₀ places₀ seats₀ orders₀ numbers₀ lives₀ spans₀ trades₀ tickets₀ none here₀ count₀ notes kept places seats orders numbers lives spans trades tickets here count =
+    (length notes ≡ length notes₀) × Left s here₀ most notes₀ (bookOf places₀ seats₀ orders₀ numbers₀ lives₀ spans₀ trades₀ tickets₀ kept₀) here count notes (bookOf places seats orders numbers lives spans trades tickets kept)
+
+abbrev μ-loop : tie.MeasureT-loop
+μ-loop s at notes₀ most market kept₀ places₀ seats₀ orders₀ numbers₀ lives₀ spans₀ trades₀ tickets₀ none here₀ count₀ notes kept places seats orders numbers lives spans trades tickets here count = length s - here
+
+-- ---- the message reaches so far
+reaches : (m : tie.After-known-told Inv-loop μ-loop) → reachOf (drop (m .before .before .before .before .loop .here) (now (m .before .before .before .before .before .before .before .before .before .before .before .before .before .before .before .before .before .before .before .before .args .s))) ≡ done (m .before .reach .given .0 .0)
+reaches m = sym (m .before .before .before .reach-at .ensures) ∙ ap reachedAs (m .before .reach .given .1)
+
+within : (m : tie.After-known-told Inv-loop μ-loop) → m .before .before .before .before .loop .here + m .before .reach .given .0 .0 ≤ length (now (m .before .before .before .before .before .before .before .before .before .before .before .before .before .before .before .before .before .before .before .before .args .s))
+within m = move-within (now (m .before .before .before .before .before .before .before .before .before .before .before .before .before .before .before .before .before .before .before .before .args .s)) (m .before .before .before .before .loop .here) (m .before .reach .given .0 .0) (reaches m)
+
+-- ---- what is planned, of the state that the arrays make
+abbrev state : (k : tie.After-planned Inv-loop μ-loop) → Book
+state k = let l = k .before .before .before .before .before .before .before .before .before .before .before .before .before .before .before .before .before .before .before .before .before .before .before .before .loop in bookOf (l .places) (l .seats) (l .orders) (l .numbers) (l .lives) (l .spans) (l .trades) (l .tickets) (l .kept)
+
+plans : (k : tie.After-planned Inv-loop μ-loop) → Wf (state k) → Plans (state k) (decodedAs (k .before .before .before .before .before .before .before .before .before .before .before .before .before .before .before .before .before .decode .result)) (k .before .before .before .before .before .before .before .before .before .before .before .before .before .before .before .before .hear .result) (k .before .before .before .before .before .before .before .before .before .before .before .before .before .before .seat-of .result) (k .planned .result)
+plans k w =
+    let l = k .before .before .before .before .before .before .before .before .before .before .before .before .before .before .before .before .before .before .before .before .before .before .before .before .loop in
+    k .planned .ensures .0 (state k) _ (k .before .before .before .before .before .before .before .before .before .before .before .before .before .before .before .before .hear .result) w refl (k .before .before .before .before .before .before .before .before .before .before .change-of .ensures)
+    (k .before .before .before .before .before .before .before .before .before .before .before .turn-in .ensures (state k) _ (k .before .before .before .before .before .before .before .before .before .before .before .before .before .before .before .before .hear .ensures) (sits (state k) w (k .before .before .before .before .before .before .before .before .before .before .before .before .before .before .before .before .hear .result) _ (k .before .before .before .before .before .before .before .before .before .before .before .before .before .before .seat-of .ensures)) (λ h. ap (λ (n : ℕ). getD (l .places) n nowhere) (k .before .before .before .before .before .before .before .before .before .before .before .before .before .spot .ensures ∙ own-seat _ h)))
+    (record { lies = ap (λ (n : ℕ). getD (l .orders) n noOrder) (k .before .before .before .before .before .spot2 .ensures); found = λ h. k .before .before .before .before .before .before .looked .ensures (l .orders) h (searchable (state k .orders) _ h (w .orders)) })
+
+market-of-requires : tie.Need-market-of-requires Inv-loop μ-loop
+market-of-requires c κs = search needs
+
+no-order-requires : tie.Need-no-order-requires Inv-loop μ-loop
+no-order-requires c κs = search needs
+
+loop-holds : tie.Need-loop-holds Inv-loop μ-loop
+loop-holds c = (refl, left-all _ _ _ _ _)
+
+reach-at-requires : tie.Need-reach-at-requires Inv-loop μ-loop
+reach-at-requires c κs = search needs
+
+enum-told : tie.Need-enum-told Inv-loop μ-loop
+enum-told c = search needs
+
+book-of-requires : tie.Need-book-of-requires Inv-loop μ-loop
+book-of-requires c κs = search needs
+
+noting-requires : tie.Need-noting-requires Inv-loop μ-loop
+noting-requires c κs = search needs
+
+same-length : tie.Need-same-length Inv-loop μ-loop
+same-length c = c .before .before .before .before .before .loop .inv .0
+
+returns : tie.Need-returns Inv-loop μ-loop
+returns c = rw (c .noting .ensures, c .before .book-of .ensures) (turn-stops _ _ _ _ _ _ _ _ _ (c .before .before .before .before .before .loop .inv .1) 1 (sym (c .before .before .before .before .reach-at .ensures) ∙ ap reachedAs (c .before .before .enum-told .given .1)))
+
+enum-told-2 : tie.Need-enum-told-2 Inv-loop μ-loop
+enum-told-2 c = search needs
+
+book-of-requires-2 : tie.Need-book-of-requires-2 Inv-loop μ-loop
+book-of-requires-2 c κs = search needs
+
+noting-requires-2 : tie.Need-noting-requires-2 Inv-loop μ-loop
+noting-requires-2 c κs = search needs
+
+same-length-2 : tie.Need-same-length-2 Inv-loop μ-loop
+same-length-2 c = c .before .before .before .before .before .loop .inv .0
+
+returns-2 : tie.Need-returns-2 Inv-loop μ-loop
+returns-2 c = rw (c .noting2 .ensures, c .before .book-of2 .ensures) (turn-stops _ _ _ _ _ _ _ _ _ (c .before .before .before .before .before .loop .inv .1) 2 (sym (c .before .before .before .before .reach-at .ensures) ∙ ap reachedAs (c .before .before .enum-told2 .given .1)))
+
+enum-known-reach : tie.Need-enum-known-reach Inv-loop μ-loop
+enum-known-reach c = search needs
+
+book-of-requires-3 : tie.Need-book-of-requires-3 Inv-loop μ-loop
+book-of-requires-3 c κs = search needs
+
+noting-requires-3 : tie.Need-noting-requires-3 Inv-loop μ-loop
+noting-requires-3 c κs = search needs
+
+same-length-3 : tie.Need-same-length-3 Inv-loop μ-loop
+same-length-3 c = c .before .before .before .before .before .before .before .loop .inv .0
+
+returns-3 : tie.Need-returns-3 Inv-loop μ-loop
+returns-3 c = let m = c .before .before .before in rw (c .noting3 .ensures, c .before .book-of3 .ensures) (turn-full _ _ _ _ _ _ _ _ _ (m .before .before .before .before .loop .inv .1) _ (reaches m) (c .before .before .if1 .taken))
+
+add-end : tie.Need-add-end Inv-loop μ-loop
+add-end c = omega (arith, within (c .before), c .before .before .before .before .before .before .before .before .before .before .before .before .before .before .before .before .before .before .before .before .before .good)
+
+sub-decode : tie.Need-sub-decode Inv-loop μ-loop
+sub-decode c = search needs
+
+part-decode-start : tie.Need-part-decode-start Inv-loop μ-loop
+part-decode-start c = search needs
+
+part-decode-end : tie.Need-part-decode-end Inv-loop μ-loop
+part-decode-end c = within (c .before)
+
+decode-requires : tie.Need-decode-requires Inv-loop μ-loop
+decode-requires c κs = search needs
+
+add-count : tie.Need-add-count Inv-loop μ-loop
+add-count c = omega (arith, c .before .before .if1 .left)
+
+hear-requires : tie.Need-hear-requires Inv-loop μ-loop
+hear-requires c κs = search needs
+
+seat-of-requires : tie.Need-seat-of-requires Inv-loop μ-loop
+seat-of-requires c κs = search needs
+
+spot-requires : tie.Need-spot-requires Inv-loop μ-loop
+spot-requires c κs = search needs
+
+mul-p : tie.Need-mul-p Inv-loop μ-loop
+mul-p c = omega (arith, c .spot .ensures, spot-within 1 (c .before .seat-of .result) 0 (omega arith))
+
+array-copy-out-p : tie.Need-array-copy-out-p Inv-loop μ-loop
+array-copy-out-p c = omega (arith, c .spot .ensures, spot-within 1 (c .before .seat-of .result) 0 (omega arith))
+
+turn-in-requires : tie.Need-turn-in-requires Inv-loop μ-loop
+turn-in-requires c κs = search needs
+
+change-of-requires : tie.Need-change-of-requires Inv-loop μ-loop
+change-of-requires c κs = search needs
+
+looked-requires : tie.Need-looked-requires Inv-loop μ-loop
+looked-requires c κs = search needs
+
+spot-requires-2 : tie.Need-spot-requires-2 Inv-loop μ-loop
+spot-requires-2 c κs = search needs
+
+mul-x : tie.Need-mul-x Inv-loop μ-loop
+mul-x c = omega (arith, c .spot2 .ensures, spot-within ordersEach (c .before .before .before .before .before .before .before .before .before .seat-of .result) (c .before .looked .result) (omega arith))
+
+array-copy-out-x : tie.Need-array-copy-out-x Inv-loop μ-loop
+array-copy-out-x c = omega (arith, c .spot2 .ensures, spot-within ordersEach (c .before .before .before .before .before .before .before .before .before .seat-of .result) (c .before .looked .result) (omega arith))
+
+planned-requires : tie.Need-planned-requires Inv-loop μ-loop
+planned-requires c κs = search needs
+
+enum-told-3 : tie.Need-enum-told-3 Inv-loop μ-loop
+enum-told-3 c = search needs
+
+note-requires : tie.Need-note-requires Inv-loop μ-loop
+note-requires c κs = search needs
+
+loop-less : tie.Need-loop-less Inv-loop μ-loop
+loop-less c = let m = c .before .before .before .before .before .before .before .before .before .before .before .before .before .before .before .before .before .before .before .before .before .before .before .before .before .before in turn-less _ _ _ _ _ _ _ _ _ (m .before .before .before .before .loop .inv .1) (m .before .reach .given .0 .0) (reaches m)
+
+loop-again : tie.Need-loop-again Inv-loop μ-loop
+loop-again c =
+    let k = c .before .before .before .before .before .before in
+    let m = c .before .before .before .before .before .before .before .before .before .before .before .before .before .before .before .before .before .before .before .before .before .before .before .before .before .before in
+    let q = c .before .before .before .before .before .before .before .before .before .before .before .before .before .before .before .before .before .before .before .before .before .before .before in
+    rw (c .before .before .note .ensures) (
+      length-set (c .before .before .before .before .before .before .before .before .before .before .before .before .before .before .before .before .before .before .before .before .before .before .before .before .before .before .before .before .before .before .loop .notes) (c .before .before .before .before .before .before .before .before .before .before .before .before .before .before .before .before .before .before .before .before .before .before .before .before .before .before .before .before .before .before .loop .count) (c .before .before .before .before .before .before .planned .result .answer) ∙ c .before .before .before .before .before .before .before .before .before .before .before .before .before .before .before .before .before .before .before .before .before .before .before .before .before .before .before .before .before .before .loop .inv .0,
+      turn-on _ _ _ _ _ _ _ _ _ (c .before .before .before .before .before .before .before .before .before .before .before .before .before .before .before .before .before .before .before .before .before .before .before .before .before .before .before .before .before .before .loop .inv .1) (m .before .reach .given .0 .0) (reaches m) (q .decode .result) _ (m .before .before .before .before .before .before .before .before .before .before .before .before .before .before .before .before .before .market-of .ensures) (q .decode .ensures .0) (record { book = _; answer = _ })
+          (nothing-steps (state k) _ _ (λ w. rw (c .before .before .before .before .enum-told3 .given .1) at (plans k w))) (c .before .before .before .before .before .before .before .before .before .before .before .before .before .before .before .before .before .before .before .before .before .before .before .before .before .if1 .left),
+    )
+
+enum-told-4 : tie.Need-enum-told-4 Inv-loop μ-loop
+enum-told-4 c = search needs
+
+mul-orders : tie.Need-mul-orders Inv-loop μ-loop
+mul-orders c = let n = c .before .before .before .before .planned .ensures .1 in omega (arith, n .0)
+
+array-set-from-orders : tie.Need-array-set-from-orders Inv-loop μ-loop
+array-set-from-orders c = let n = c .before .before .before .before .planned .ensures .1 in omega (arith, n .0)
+
+mul-orders-2 : tie.Need-mul-orders-2 Inv-loop μ-loop
+mul-orders-2 c = let n = c .before .before .before .before .planned .ensures .1 in omega (arith, n .1)
+
+array-set-from-orders-2 : tie.Need-array-set-from-orders-2 Inv-loop μ-loop
+array-set-from-orders-2 c = let n = c .before .before .before .before .planned .ensures .1 in omega (arith, n .1)
+
+mirror-requires : tie.Need-mirror-requires Inv-loop μ-loop
+mirror-requires c κs = search needs
+
+deal-of-requires : tie.Need-deal-of-requires Inv-loop μ-loop
+deal-of-requires c κs = search needs
+
+decided-requires : tie.Need-decided-requires Inv-loop μ-loop
+decided-requires c κs = search needs
+
+spot-requires-3 : tie.Need-spot-requires-3 Inv-loop μ-loop
+spot-requires-3 c κs = search needs
+
+mul-lies : tie.Need-mul-lies Inv-loop μ-loop
+mul-lies c = omega (arith, c .spot3 .ensures, spot-within tradesEach (c .before .before .before .before .before .before .before .before .before .before .before .before .before .before .before .before .before .before .before .before .before .before .before .before .before .before .seat-of .result) (c .before .decided .result .place) (omega arith))
+
+array-copy-out-lies : tie.Need-array-copy-out-lies Inv-loop μ-loop
+array-copy-out-lies c = omega (arith, c .spot3 .ensures, spot-within tradesEach (c .before .before .before .before .before .before .before .before .before .before .before .before .before .before .before .before .before .before .before .before .before .before .before .before .before .before .seat-of .result) (c .before .decided .result .place) (omega arith))
+
+trade-or-requires : tie.Need-trade-or-requires Inv-loop μ-loop
+trade-or-requires c κs = search needs
+
+mul-trades : tie.Need-mul-trades Inv-loop μ-loop
+mul-trades c = omega (arith, c .before .before .before .spot3 .ensures, spot-within tradesEach (c .before .before .before .before .before .before .before .before .before .before .before .before .before .before .before .before .before .before .before .before .before .before .before .before .before .before .before .before .before .seat-of .result) (c .before .before .before .before .decided .result .place) (omega arith))
+
+array-set-from-trades : tie.Need-array-set-from-trades Inv-loop μ-loop
+array-set-from-trades c = omega (arith, c .before .before .before .spot3 .ensures, spot-within tradesEach (c .before .before .before .before .before .before .before .before .before .before .before .before .before .before .before .before .before .before .before .before .before .before .before .before .before .before .before .before .before .seat-of .result) (c .before .before .before .before .decided .result .place) (omega arith))
+
+ticket-of-requires : tie.Need-ticket-of-requires Inv-loop μ-loop
+ticket-of-requires c κs = search needs
+
+mul-tickets : tie.Need-mul-tickets Inv-loop μ-loop
+mul-tickets c = omega (arith, c .before .before .before .before .spot3 .ensures, spot-within tradesEach (c .before .before .before .before .before .before .before .before .before .before .before .before .before .before .before .before .before .before .before .before .before .before .before .before .before .before .before .before .before .before .seat-of .result) (c .before .before .before .before .before .decided .result .place) (omega arith))
+
+array-write-tickets : tie.Need-array-write-tickets Inv-loop μ-loop
+array-write-tickets c = omega (arith, c .before .before .before .before .spot3 .ensures, spot-within tradesEach (c .before .before .before .before .before .before .before .before .before .before .before .before .before .before .before .before .before .before .before .before .before .before .before .before .before .before .before .before .before .before .seat-of .result) (c .before .before .before .before .before .decided .result .place) (omega arith))
+
+counted-requires : tie.Need-counted-requires Inv-loop μ-loop
+counted-requires c κs = search needs
+
+mul-places : tie.Need-mul-places Inv-loop μ-loop
+mul-places c = omega (arith, c .before .before .before .before .before .before .before .before .before .before .before .before .before .before .before .before .before .before .before .before .before .before .before .before .before .before .before .before .before .before .spot .ensures, spot-within 1 (c .before .before .before .before .before .before .before .before .before .before .before .before .before .before .before .before .before .before .before .before .before .before .before .before .before .before .before .before .before .before .before .seat-of .result) 0 (omega arith))
+
+array-set-from-places : tie.Need-array-set-from-places Inv-loop μ-loop
+array-set-from-places c = omega (arith, c .before .before .before .before .before .before .before .before .before .before .before .before .before .before .before .before .before .before .before .before .before .before .before .before .before .before .before .before .before .before .spot .ensures, spot-within 1 (c .before .before .before .before .before .before .before .before .before .before .before .before .before .before .before .before .before .before .before .before .before .before .before .before .before .before .before .before .before .before .before .seat-of .result) 0 (omega arith))
+
+note-requires-2 : tie.Need-note-requires-2 Inv-loop μ-loop
+note-requires-2 c κs = search needs
+
+loop-less-2 : tie.Need-loop-less-2 Inv-loop μ-loop
+loop-less-2 c = let m = c .before .before .before .before .before .before .before .before .before .before .before .before .before .before .before .before .before .before .before .before .before .before .before .before .before .before .before .before .before .before .before .before .before .before .before .before .before .before .before .before .before in turn-less _ _ _ _ _ _ _ _ _ (m .before .before .before .before .loop .inv .1) (m .before .reach .given .0 .0) (reaches m)
+
+loop-again-2 : tie.Need-loop-again-2 Inv-loop μ-loop
+loop-again-2 c =
+    let k = c .before .before .before .before .before .before .before .before .before .before .before .before .before .before .before .before .before .before .before .before .before in
+    let m = c .before .before .before .before .before .before .before .before .before .before .before .before .before .before .before .before .before .before .before .before .before .before .before .before .before .before .before .before .before .before .before .before .before .before .before .before .before .before .before .before .before in
+    let q = c .before .before .before .before .before .before .before .before .before .before .before .before .before .before .before .before .before .before .before .before .before .before .before .before .before .before .before .before .before .before .before .before .before .before .before .before .before .before in
+    rw (c .before .before .note2 .ensures) (
+      length-set (c .before .before .before .before .before .before .before .before .before .before .before .before .before .before .before .before .before .before .before .before .before .before .before .before .before .before .before .before .before .before .before .before .before .before .before .before .before .before .before .before .before .before .before .before .before .loop .notes) (c .before .before .before .before .before .before .before .before .before .before .before .before .before .before .before .before .before .before .before .before .before .before .before .before .before .before .before .before .before .before .before .before .before .before .before .before .before .before .before .before .before .before .before .before .before .loop .count) 0 ∙ c .before .before .before .before .before .before .before .before .before .before .before .before .before .before .before .before .before .before .before .before .before .before .before .before .before .before .before .before .before .before .before .before .before .before .before .before .before .before .before .before .before .before .before .before .before .loop .inv .0,
+      turn-on _ _ _ _ _ _ _ _ _ (c .before .before .before .before .before .before .before .before .before .before .before .before .before .before .before .before .before .before .before .before .before .before .before .before .before .before .before .before .before .before .before .before .before .before .before .before .before .before .before .before .before .before .before .before .before .loop .inv .1) (m .before .reach .given .0 .0) (reaches m) (q .decode .result) _ (m .before .before .before .before .before .before .before .before .before .before .before .before .before .before .before .before .before .market-of .ensures) (q .decode .ensures .0) (record { book = _; answer = 0 })
+          (rw (c .before .before .before .before .before .before .before .before .before .before .before .before .before .before .before .before .before .before .before .before .before .before .before .before .before .before .before .before .before .before .before .before .before .before .before .before .before .before .before .before .before .before .before .before .before .before .no-order .ensures)
+          (stores-step (state k) _ (c .before .before .before .before .before .before .before .before .before .before .before .before .before .before .before .before .before .before .before .before .before .before .before .before .before .before .before .before .before .before .before .before .before .before .before .before .before .hear .result) (c .before .before .before .before .before .before .before .before .before .before .before .before .before .before .before .before .before .before .before .before .before .before .before .before .before .before .before .before .before .before .before .before .before .before .before .seat-of .result) (c .before .before .before .before .before .before .before .before .before .before .decided .result) _ _ _ _ _ _
+          (record {
+            decides = λ g s w. rw (c .before .before .before .before .before .before .before .before .before .before .before .deal-of .ensures) at (c .before .before .before .before .before .before .before .before .before .before .decided .ensures .0 _ g s w);
+            slot = c .before .before .before .before .before .before .before .before .before .spot3 .ensures;
+            trade = c .before .before .before .before .before .before .trade-or .ensures;
+            ticket = c .before .before .before .before .before .ticket-of .ensures;
+            own = c .before .before .before .before .before .before .before .before .before .before .before .before .before .before .before .before .before .before .before .before .before .before .before .before .before .before .before .before .before .before .before .before .before .before .spot .ensures;
+            lies = refl;
+            counted = c .before .before .before .before .counted .ensures;
+          })
+          _ _ (c .before .before .before .before .before .before .before .before .before .before .before .before .before .mirror .ensures) (λ w. rw (c .before .before .before .before .before .before .before .before .before .before .before .before .before .before .before .before .before .before .before .enum-told4 .given .1) at (plans k w)))) (c .before .before .before .before .before .before .before .before .before .before .before .before .before .before .before .before .before .before .before .before .before .before .before .before .before .before .before .before .before .before .before .before .before .before .before .before .before .before .before .before .if1 .left),
+    )
+
+enum-told-5 : tie.Need-enum-told-5 Inv-loop μ-loop
+enum-told-5 c = search needs
+
+book-of-requires-4 : tie.Need-book-of-requires-4 Inv-loop μ-loop
+book-of-requires-4 c κs = search needs
+
+step-requires : tie.Need-step-requires Inv-loop μ-loop
+step-requires c κs = search needs
+
+note-requires-3 : tie.Need-note-requires-3 Inv-loop μ-loop
+note-requires-3 c κs = search needs
+
+loop-less-3 : tie.Need-loop-less-3 Inv-loop μ-loop
+loop-less-3 c = let m = c .before .before .before .before .before .before .before .before .before .before .before .before .before .before .before .before .before .before .before .before .before .before .before .before .before .before .before .before .before .before .before .before .before .before .before .before .before .before .before .before in turn-less _ _ _ _ _ _ _ _ _ (m .before .before .before .before .loop .inv .1) (m .before .reach .given .0 .0) (reaches m)
+
+loop-again-3 : tie.Need-loop-again-3 Inv-loop μ-loop
+loop-again-3 c =
+    let k = c .before .before .before .before .before .before .before .before .before .before .before .before .before .before .before .before .before .before .before .before in
+    let m = c .before .before .before .before .before .before .before .before .before .before .before .before .before .before .before .before .before .before .before .before .before .before .before .before .before .before .before .before .before .before .before .before .before .before .before .before .before .before .before .before in
+    let q = c .before .before .before .before .before .before .before .before .before .before .before .before .before .before .before .before .before .before .before .before .before .before .before .before .before .before .before .before .before .before .before .before .before .before .before .before .before in
+    rw (c .before .before .note3 .ensures) (
+      length-set (c .before .before .before .before .before .before .before .before .before .before .before .before .before .before .before .before .before .before .before .before .before .before .before .before .before .before .before .before .before .before .before .before .before .before .before .before .before .before .before .before .before .before .before .before .loop .notes) (c .before .before .before .before .before .before .before .before .before .before .before .before .before .before .before .before .before .before .before .before .before .before .before .before .before .before .before .before .before .before .before .before .before .before .before .before .before .before .before .before .before .before .before .before .loop .count) (c .before .before .before .before .before .before .before .before .before .before .before .before .before .before .before .before .step .result .answer) ∙ c .before .before .before .before .before .before .before .before .before .before .before .before .before .before .before .before .before .before .before .before .before .before .before .before .before .before .before .before .before .before .before .before .before .before .before .before .before .before .before .before .before .before .before .before .loop .inv .0,
+      turn-on _ _ _ _ _ _ _ _ _ (c .before .before .before .before .before .before .before .before .before .before .before .before .before .before .before .before .before .before .before .before .before .before .before .before .before .before .before .before .before .before .before .before .before .before .before .before .before .before .before .before .before .before .before .before .loop .inv .1) (m .before .reach .given .0 .0) (reaches m) (q .decode .result) _ (m .before .before .before .before .before .before .before .before .before .before .before .before .before .before .before .before .before .market-of .ensures) (q .decode .ensures .0) (record { book = _; answer = _ })
+          (rw (c .before .before .before .before .before .before .before .before .before .before .before .before .before .before .before .before .before .book-of4 .ensures) at (c .before .before .before .before .before .before .before .before .before .before .before .before .before .before .before .before .step .ensures .0)) (c .before .before .before .before .before .before .before .before .before .before .before .before .before .before .before .before .before .before .before .before .before .before .before .before .before .before .before .before .before .before .before .before .before .before .before .before .before .before .before .if1 .left),
+    )
+
+pub going-spec : {M : Type 1} → statement M
+going-spec =
+    tie.close
+    (tie.spec
+    Inv-loop
+    μ-loop
+    market-of-requires
+    no-order-requires
+    loop-holds
+    reach-at-requires
+    enum-told
+    book-of-requires
+    noting-requires
+    same-length
+    returns
+    enum-told-2
+    book-of-requires-2
+    noting-requires-2
+    same-length-2
+    returns-2
+    enum-known-reach
+    book-of-requires-3
+    noting-requires-3
+    same-length-3
+    returns-3
+    add-end
+    sub-decode
+    part-decode-start
+    part-decode-end
+    decode-requires
+    add-count
+    hear-requires
+    seat-of-requires
+    spot-requires
+    mul-p
+    array-copy-out-p
+    turn-in-requires
+    change-of-requires
+    looked-requires
+    spot-requires-2
+    mul-x
+    array-copy-out-x
+    planned-requires
+    enum-told-3
+    note-requires
+    loop-less
+    loop-again
+    enum-told-4
+    mul-orders
+    array-set-from-orders
+    mul-orders-2
+    array-set-from-orders-2
+    mirror-requires
+    deal-of-requires
+    decided-requires
+    spot-requires-3
+    mul-lies
+    array-copy-out-lies
+    trade-or-requires
+    mul-trades
+    array-set-from-trades
+    ticket-of-requires
+    mul-tickets
+    array-write-tickets
+    counted-requires
+    mul-places
+    array-set-from-places
+    note-requires-2
+    loop-less-2
+    loop-again-2
+    enum-told-5
+    book-of-requires-4
+    step-requires
+    note-requires-3
+    loop-less-3
+    loop-again-3)
