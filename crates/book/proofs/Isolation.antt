@@ -31,7 +31,7 @@ enacted-keeps-name s d (unchanged a) = record { index = refl; name = refl; len =
 enacted-keeps-name s d (made-stale a) = record { index = refl; name = refl; len = refl; scale = refl }
 enacted-keeps-name s d (applied os) = record { index = refl; name = refl; len = refl; scale = refl }
 
-meeting-keeps-name : (s : Symbol) (a : Act Effect) → SameName s (meeting s a .symbol)
+pub meeting-keeps-name : (s : Symbol) (a : Act Effect) → SameName s (meeting s a .symbol)
 unfolding meeting
 meeting-keeps-name s (clearing index next) = record { index = refl; name = refl; len = refl; scale = refl }
 meeting-keeps-name s (numbered index n e) = enacted-keeps-name s (dealOf e) _

@@ -6,6 +6,7 @@ pub mod Registering
 pub mod Beginning
 pub mod Walking
 pub mod Isolation
+pub mod SameNames
 pub mod OneMarket
 pub mod Holding
 pub mod Levels

@@ -2,6 +2,7 @@
 use crate::Book;
 use crate::Done;
 use symbols::Listing;
+use symbols::Symbols;
 ghost use mathlib.Core.Path.{_≡_};
 ghost use Rattle.book.specs.State.{view};
 ghost use Rattle.book.specs.Promises.{Steps};
@@ -20,6 +21,13 @@ impl Book {
             book: self,
             answer: r.answer,
         }
+    }
+
+    // The symbols by themselves: whoever asks of many messages hands on these and not the whole state.
+    pub fn names(self) -> Symbols
+        ensures { λ r. ⌜ r ≡ self .symbols ⌝ }
+    {
+        self.symbols
     }
 
     // What was registered under an index, or 5.
