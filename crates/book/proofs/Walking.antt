@@ -88,15 +88,15 @@ module _ (c : Book) (s : List ℕ) (at : ℕ) (r : Moved) (m : Moves c s at r) w
       go (done n) e = m .offset ∙ ap (λ (x : Outcome ℕ). offsetBy x (view c .market) s at) e ∙ ap (λ (t : List ℕ). readOf (view c .market) t .offset) (sym (passed-bytes n e))
 
 -- ---- answers
-length-answers : (v : View) (ms : List (List ℕ)) → length (answersOf v ms) ≡ length ms
+pub length-answers : (v : View) (ms : List (List ℕ)) → length (answersOf v ms) ≡ length ms
 unfolding answersOf
 length-answers v [] = refl
 length-answers v (m ∷ ms) = ap suc (length-answers (stepIn v m .view) ms)
 
-answers-join : (v : View) (ms : List (List ℕ)) (m : List ℕ) → answersOf v (ms ++ (m ∷ [])) ≡ answersOf v ms ++ (stepIn (stepsOf v ms) m .answer ∷ [])
+pub answers-join : (v : View) (ms ns : List (List ℕ)) → answersOf v (ms ++ ns) ≡ answersOf v ms ++ answersOf (stepsOf v ms) ns
 unfolding answersOf stepsOf
-answers-join v [] m = refl
-answers-join v (x ∷ ms) m = ap (λ (l : List ℕ). stepIn v x .answer ∷ l) (answers-join (stepIn v x .view) ms m)
+answers-join v [] ns = refl
+answers-join v (m ∷ ms) ns = ap (λ (l : List ℕ). stepIn v m .answer ∷ l) (answers-join (stepIn v m .view) ms ns)
 
 sets-snoc : (l : List ℕ) (i : ℕ) (vs : List ℕ) (a : ℕ) → sets l i (vs ++ (a ∷ [])) ≡ set (sets l i vs) (i + length vs) a
 sets-snoc l i [] a = ap (λ (j : ℕ). set l j a) (sym (add-zero i))
@@ -189,7 +189,7 @@ module _ (s : List ℕ) (from most : ℕ) (before : List ℕ) (b : Book) (at cou
       step-is w = read ∙ ap (λ (v : View). stepIn v message) (l .same-view w)
 
       pub turn-on : Left s from most before b (at + n) (count + 1) (set notes count (r .answer)) (r .book)
-      unfolding walkUpTo stepsOf
+      unfolding walkUpTo stepsOf answersOf
       turn-on = go (l .fuel) (l .spent) (l .same-end) (l .same-answer) (l .split)
         where
           go : (f : ℕ) → count + f ≡ most → walkUpTo f s at .at ≡ walkUpTo most s from .at → walkUpTo f s at .answer ≡ walkUpTo most s from .answer → l .passed ++ walkUpTo f s at .messages ≡ walkUpTo most s from .messages
@@ -211,7 +211,7 @@ module _ (s : List ℕ) (from most : ℕ) (before : List ℕ) (b : Book) (at cou
             same-view = λ w. p .obeys (l .sound w) .next-view ∙ ap (λ (y : Next). y .view) (step-is w) ∙ sym (steps-join (view b) (l .passed) (message ∷ []));
             noted = λ w.
                 let told : r .answer ≡ stepIn (stepsOf (view b) (l .passed)) message .answer = p .obeys (l .sound w) .answer ∙ ap (λ (y : Next). y .answer) (step-is w) in
-                rw (told, l .noted w) (sym (ap (sets before 0) (answers-join (view b) (l .passed) message) ∙ sets-snoc before 0 (answersOf (view b) (l .passed)) _ ∙ ap (λ (j : ℕ). set (sets before 0 (answersOf (view b) (l .passed))) j (stepIn (stepsOf (view b) (l .passed)) message .answer)) (zero-add (length (answersOf (view b) (l .passed))) ∙ length-answers (view b) (l .passed) ∙ l .counted)));
+                rw (told, l .noted w) (sym (ap (sets before 0) (answers-join (view b) (l .passed) (message ∷ [])) ∙ sets-snoc before 0 (answersOf (view b) (l .passed)) _ ∙ ap (λ (j : ℕ). set (sets before 0 (answersOf (view b) (l .passed))) j (stepIn (stepsOf (view b) (l .passed)) message .answer)) (zero-add (length (answersOf (view b) (l .passed))) ∙ length-answers (view b) (l .passed) ∙ l .counted)));
           }
 
 -- ---- a walk of at most as many messages as there are bytes is the whole walk

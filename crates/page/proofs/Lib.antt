@@ -6,6 +6,8 @@ pub mod Marked
 pub mod OneOutcome
 pub mod Printouts
 pub mod Sheets
+pub mod NotedTexts
+pub mod Batches
 pub mod Passing
 pub mod DoneLines
 pub mod BadLines

@@ -1,7 +1,7 @@
 // What is printed of a message that was passed over, and at the end, as lines under construction.
 use crate::lines::line_of;
+use crate::printing::append;
 use crate::printing::has_no_line;
-use book::Book;
 use book::Quote;
 use columns::Line;
 use columns::blank;
@@ -11,46 +11,57 @@ use columns::push;
 use columns::put_separator;
 use markets::Market;
 use orders::Level;
+use symbols::Symbols;
 use wire::Answer;
 ghost use mathlib.Core.List.{_++_};
 ghost use mathlib.Core.Path.{_≡_};
-ghost use Rattle.wire.specs.Reading.{readOf};
-ghost use Rattle.book.specs.State.{view};
+ghost use Prim.Native.Nat.{_+_, _≤_};
+ghost use lib.ListN.{length};
 ghost use Rattle.columns.specs.Columns.{further, rendered};
-ghost use Rattle.columns.specs.Held.{held, Adds};
-ghost use Rattle.page.specs.Printout.{refusal, passedText, endText, levelColumns, quoteText};
+ghost use Rattle.columns.specs.Held.{room, held, Adds};
+ghost use Rattle.page.specs.Printout.{refusal, endText, levelColumns, quoteText};
+ghost use Rattle.page.specs.Laying.{LaysOne};
 
 // A line's sequence number has 32 bits.
 const SEQUENCES: u64 = 4294967296;
 
-// Of a message of the market with its answer, its offset and its place in the file, by the state after it: the line of a done 100 or 111, `R,answer,place` of a refused one and
-// with a bad field `R,4,place,offset`, nothing of any other.
-pub(crate) fn passed_line(
+// Lays the text of a message of the market, with its answer and its place in the file, behind the first bytes of out, and tells how many bytes there are then: the line of a done 100 or 111,
+// with its symbol's name, `R,answer,place` of a refused one and with a bad field `R,4,place,offset`, nothing of any other.
+pub(crate) fn lay_passed(
     market: Market,
-    book: Book,
+    names: Symbols,
     message: &[u8],
     answer: u8,
-    offset: usize,
     place: u64,
     second: u32,
-) -> Line
-    requires { ⌜ offset ≡ readOf market (now message) .offset ⌝ }
-    ensures { λ r. ⌜ held r ≡ passedText market (record { view = view book; answer = answer }) (now (message .entry)) place second ⌝ }
+    out: &mut [u8],
+    at: usize,
+) -> usize
+    requires { ⌜ at + room ≤ length (now out) ⌝ }
+    ensures { λ r. ⌜ LaysOne market names (now (message .entry)) answer place second at (now (out .entry)) r (now (out .exit)) ⌝ }
 {
-    if answer != 0 {
-        return refusal_line(answer, offset, place);
-    }
     let d = wire::decode(market, message);
     let a = d.answer;
+    if answer != 0 {
+        return append(
+            refusal_line(answer, wire::offset_of_answer(a), place),
+            out,
+            at,
+        );
+    }
     let Answer::Message(m) = a else {
-        return blank();
+        return at;
     };
     if has_no_line(wire::type_of(m)) {
-        return blank();
+        return at;
     }
-    let s = book.symbol(wire::index_of(m));
+    let s = names.told(wire::index_of(m));
     let plain = d.plain;
-    line_of(s, m, plain, (place % SEQUENCES) as u32, second)
+    append(
+        line_of(s, m, plain, (place % SEQUENCES) as u32, second),
+        out,
+        at,
+    )
 }
 
 fn refusal_line(answer: u8, offset: usize, place: u64) -> Line
