@@ -20,6 +20,25 @@ unfolding fixed
 fixed-more zero n h = absurd (h refl)
 fixed-more (suc w) n h = ap (λ k. fixed k (n / 10) ++ (digit (n % 10) ∷ [])) (sym (sub-one (suc w)))
 
+-- what stands before the last i of them: nothing, a digit more for each i less, all
+pub fixed-begun : (w n : ℕ) → fixed (w - w) (n / 10 ^ w) ≡ []
+fixed-begun w n = fixed-none (w - w) (n / 10 ^ w) (omega arith)
+
+pub fixed-next : (w n i u : ℕ) → 0 < i → i ≤ w → u ≡ n / 10 ^ (i - 1) → fixed (w - (i - 1)) (n / 10 ^ (i - 1)) ≡ fixed (w - i) (n / 10 ^ i) ++ (digit (u % 10) ∷ [])
+unfolding fixed
+fixed-next w n zero u h k e = absurd (omega arith)
+fixed-next w n (suc i) u h k e =
+    let one-more : w - (suc i - 1) ≡ suc (w - suc i) = omega arith in
+    let a-tenth : n / 10 ^ (suc i - 1) / 10 ≡ n / 10 ^ suc i =
+    ap (λ j. n / 10 ^ j / 10) (sub-one (suc i)) ∙ div-div-eq-div-mul n (10 ^ i) 10 ∙ ap (λ j. n / j) (sym (pow-suc 10 i)) in
+    rw (one-more, e, a-tenth) refl
+
+pub fixed-ended : (w n i : ℕ) → i ≤ 0 → fixed (w - i) (n / 10 ^ i) ≡ fixed w n
+fixed-ended w n zero h =
+    let all : w - 0 ≡ w = omega arith in
+    ap (λ j. fixed j (n / 1)) all ∙ ap (fixed w) (div-one n)
+fixed-ended w n (suc i) h = absurd (omega arith)
+
 -- ---- no leading zeros
 pub by-one : (f n : ℕ) → n < 10 → digitsBy (suc f) n ≡ digit n ∷ []
 unfolding digitsBy

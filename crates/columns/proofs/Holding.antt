@@ -4,24 +4,26 @@ use mathlib.Core.List.{List, [], _∷_, _++_, append-assoc, append-nil, map, map
 use Prim.Native.Nat.{ℕ, zero, suc, _+_, _≤_, _<_}
 use native.Mathlib.Numerals.{add-one}
 use native.Mathlib.Omega.{arith}
-use lib.ListN.{length, take, getD, set, length-append, length-take}
+use lib.ListN.{length, take, getD, set, length-append, length-set, length-take}
 use lib.Seq.{take-suc, take-all, take-append-le, take-suc-set, length-take-le}
 use Rattle.columns.specs.Text.{textByte}
 use Rattle.columns.specs.Held.{room, held, clip, Shows, HoldsText, Adds}
 use Rattle.columns.specs.declared.Line.{Line}
 
 -- ---- one byte
-pub push-full : (xs : List ℕ) (n b : ℕ) → length xs ≡ room → room ≤ n → take n xs ≡ clip (take n xs ++ (b ∷ []))
-unfolding clip
-push-full xs n b e h =
-    let all : take n xs ≡ xs = take-all n xs (omega arith) in
-    rw all (sym (take-append-le room xs (b ∷ []) (omega arith) ∙ take-all room xs (omega arith)))
+-- a full line stays, and the byte is clipped
+pub stays : (l : Line) (b : ℕ) → length (l .bytes) ≡ room → room ≤ l .len → Adds l (b ∷ []) l
+unfolding held clip
+stays l b e h =
+    let all : take (l .len) (l .bytes) ≡ l .bytes = take-all (l .len) (l .bytes) (omega arith) in
+    record { adds = rw all (sym (take-append-le room (l .bytes) (b ∷ []) (omega arith) ∙ take-all room (l .bytes) (omega arith))) }
 
-pub push-room : (xs : List ℕ) (n b : ℕ) → length xs ≡ room → n < room → take (n + 1) (set xs n b) ≡ clip (take n xs ++ (b ∷ []))
-unfolding clip
-push-room xs n b e h =
-    let long : length (take n xs) ≡ n = length-take-le n xs (omega arith) in
-    rw (add-one, take-suc-set xs n b (omega arith)) (sym (take-all room (take n xs ++ (b ∷ [])) (omega (arith, length-append (take n xs) (b ∷ [])))))
+-- a line with room takes it after what it holds
+pub stored : (l : Line) (b : ℕ) → length (l .bytes) ≡ room → l .len < room → Adds l (b ∷ []) (record { bytes = set (l .bytes) (l .len) b; len = l .len + 1 })
+unfolding held clip
+stored l b e h =
+    let long : length (held l) ≡ l .len = length-take-le (l .len) (l .bytes) (omega arith) in
+    record { adds = rw (add-one, take-suc-set (l .bytes) (l .len) b (omega arith)) (sym (take-all room (held l ++ (b ∷ [])) (omega (arith, length-append (held l) (b ∷ []))))) }
 
 -- ---- a text after a text
 take-of-take : (k : ℕ) (a b : List ℕ) → take k (take k a ++ b) ≡ take k (a ++ b)
@@ -43,6 +45,21 @@ adds-then {a} {b} {c} {x} {y} p q =
 
 pub adds-last : {a b : Line} {x : List ℕ} → Adds a x b → Adds a (x ++ []) b
 adds-last {a} {b} {x} p = rw (append-nil x) p
+
+-- ---- a line that is added to byte by byte: r has its room, and adds x to l so far
+pub record Grown (l : Line) (x : List ℕ) (r : Line) : Type 0 where
+  pub roomy : length (r .bytes) ≡ room
+  pub so-far : Adds l x r
+
+pub not-grown : (l : Line) → length (l .bytes) ≡ room → Grown l [] l
+not-grown l e = record { roomy = e; so-far = adds-nothing l e }
+
+pub grown-stays : {l r : Line} {x : List ℕ} (b : ℕ) → Grown l x r → room ≤ r .len → Grown l (x ++ (b ∷ [])) r
+grown-stays {l} {r} {x} b g h = record { roomy = g .roomy; so-far = adds-then (g .so-far) (stays r b (g .roomy) h) }
+
+pub grown-stored : {l r : Line} {x : List ℕ} (b : ℕ) → Grown l x r → r .len < room →
+    Grown l (x ++ (b ∷ [])) (record { bytes = set (r .bytes) (r .len) b; len = r .len + 1 })
+grown-stored {l} {r} {x} b g h = record { roomy = length-set (r .bytes) (r .len) b ∙ g .roomy; so-far = adds-then (g .so-far) (stored r b (g .roomy) h) }
 
 pub holds-nothing : {a : Line} → held a ≡ [] → HoldsText [] a
 unfolding clip

@@ -68,11 +68,18 @@ pub fn put_separator(l: Line) -> Line
 fn put_fixed(l: Line, n: u64, w: usize) -> Line
     ensures { λ r. ⌜ Adds l (fixed w n) r ⌝ }
 {
-    if w == 0 {
-        return l;
+    let mut r = l;
+    let mut i = w;
+    while 0 < i {
+        i -= 1;
+        let b = (48 + units(n, i) % 10) as u8;
+        let at = r.len;
+        if at < ROOM {
+            r.bytes[at] = b;
+            r.len = at + 1;
+        }
     }
-    let front = put_fixed(l, n / 10, w - 1);
-    push(front, (48 + n % 10) as u8)
+    r
 }
 
 // The digits of n without leading zeros.
@@ -86,7 +93,7 @@ pub fn put_number(l: Line, n: u64) -> Line
     push(front, (48 + n % 10) as u8)
 }
 
-// The units of a price at scale s: what stands before its point.
+// What stands before the last s digits of p: the units of a price at scale s.
 fn units(p: u64, s: usize) -> u64
     ensures { λ r. ⌜ r ≡ p / 10 ^ s ⌝ }
 {

@@ -1,13 +1,11 @@
 -- By whether there is room: the byte is the last one held, or nothing changes.
 use borrow.Author.Needs.{needs}
-use Rattle.columns.specs.Held.{held}
-use Rattle.columns.proofs.Holding.{push-full, push-room}
+use Rattle.columns.proofs.Holding.{stays, stored}
 use Rattle.columns.proofs.push.Statement.{statement}
 use Rattle.columns.proofs.push.Tie as tie
 
 returns : tie.Need-returns
-unfolding held
-returns c = record { adds = push-full (c .before .args .l .bytes) (c .before .args .l .len) (c .before .args .b) (search needs) (c .if1 .taken) }
+returns c = stays (c .before .args .l) (c .before .args .b) (search needs) (c .if1 .taken)
 
 element-write-more : tie.Need-element-write-more
 element-write-more c = search needs
@@ -16,8 +14,7 @@ add-more : tie.Need-add-more
 add-more c = search needs
 
 returns-2 : tie.Need-returns-2
-unfolding held
-returns-2 c = record { adds = push-room (c .before .args .l .bytes) (c .before .args .l .len) (c .before .args .b) (search needs) (c .if1 .left) }
+returns-2 c = stored (c .before .args .l) (c .before .args .b) (search needs) (c .if1 .left)
 
 pub push-spec : {M : Type 1} → statement M
 push-spec = tie.close (tie.spec returns element-write-more add-more returns-2)
