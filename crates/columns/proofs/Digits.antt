@@ -2,23 +2,19 @@
 use mathlib.Core.Path.{_≡_, refl, ap, sym, _∙_}
 use mathlib.Core.List.{[], _∷_, _++_, append-nil}
 use mathlib.Core.Bool.{Bool, true, false}
-use Prim.Native.Nat.{ℕ, zero, suc, _-_, _/_, _%_, _^_, _≤_, _<_}
-use native.Mathlib.Nat.{pow-suc, pow-succ', div-one, div-div-eq-div-mul, div-lt-iff-lt-mul}
-use native.Mathlib.Numerals.{sub-one}
+use Prim.Native.Nat.{ℕ, zero, suc, _+_, _-_, _/_, _%_, _^_, _≤_, _<_}
+use native.Mathlib.Nat.{pow-suc, pow-succ', div-one, div-div-eq-div-mul, div-lt-iff-lt-mul, mod-eq-of-lt}
+use native.Mathlib.Numerals.{add-one, sub-one}
 use native.Mathlib.Omega.{arith}
 use borrow.Author.Tests.{lt-ltb, le-ltb, ltb-true, ltb-false}
+use lib.ListN.{length, length-append}
 use lib.Dec.{ltb}
-use Rattle.columns.specs.Text.{point, digit, fixed, digitsBy, digits, priced, decimals}
+use Rattle.columns.specs.Text.{point, digit, fixed, digitsBy, digits, mostDigits, priced, decimals}
 
 -- ---- a fixed count of digits
-pub fixed-none : (w n : ℕ) → w ≡ 0 → fixed w n ≡ []
+fixed-none : (w n : ℕ) → w ≡ 0 → fixed w n ≡ []
 unfolding fixed
 fixed-none w n e = rw e refl
-
-pub fixed-more : (w n : ℕ) → (w ≡ 0 → ⊥) → fixed w n ≡ fixed (w - 1) (n / 10) ++ (digit (n % 10) ∷ [])
-unfolding fixed
-fixed-more zero n h = absurd (h refl)
-fixed-more (suc w) n h = ap (λ k. fixed k (n / 10) ++ (digit (n % 10) ∷ [])) (sym (sub-one (suc w)))
 
 -- what stands before the last i of them: nothing, a digit more for each i less, all
 pub fixed-begun : (w n : ℕ) → fixed (w - w) (n / 10 ^ w) ≡ []
@@ -29,8 +25,7 @@ unfolding fixed
 fixed-next w n zero u h k e = absurd (omega arith)
 fixed-next w n (suc i) u h k e =
     let one-more : w - (suc i - 1) ≡ suc (w - suc i) = omega arith in
-    let a-tenth : n / 10 ^ (suc i - 1) / 10 ≡ n / 10 ^ suc i =
-    ap (λ j. n / 10 ^ j / 10) (sub-one (suc i)) ∙ div-div-eq-div-mul n (10 ^ i) 10 ∙ ap (λ j. n / j) (sym (pow-suc 10 i)) in
+    let a-tenth : n / 10 ^ (suc i - 1) / 10 ≡ n / 10 ^ suc i = ap (λ j. n / 10 ^ j / 10) (sub-one (suc i)) ∙ div-div-eq-div-mul n (10 ^ i) 10 ∙ ap (λ j. n / j) (sym (pow-suc 10 i)) in
     rw (one-more, e, a-tenth) refl
 
 pub fixed-ended : (w n i : ℕ) → i ≤ 0 → fixed (w - i) (n / 10 ^ i) ≡ fixed w n
@@ -69,6 +64,35 @@ digits-one n h = by-one 19 n h
 pub digits-more : (n : ℕ) → 10 ≤ n → n < 2 ^ 64 → digits n ≡ digits (n / 10) ++ (digit (n % 10) ∷ [])
 unfolding digits
 digits-more n h k = by-more 19 n h ∙ ap (λ l. l ++ (digit (n % 10) ∷ [])) (enough 18 (n / 10) (omega arith))
+
+-- as many of the last digits are all of them: by whether n is one digit
+all-step : (f n : ℕ) → fixed (length (digitsBy f (n / 10))) (n / 10) ≡ digitsBy f (n / 10) → (b : Bool) → ltb n 10 ≡ b →
+    fixed (length (digitsBy (suc f) n)) n ≡ digitsBy (suc f) n
+unfolding fixed
+all-step f n ih true e =
+    let one = by-one f n (ltb-true n 10 e) in
+    let small : n % 10 ≡ n = mod-eq-of-lt (ltb-true n 10 e) in
+    rw (one, small) refl
+all-step f n ih false e =
+    let front = digitsBy f (n / 10) in
+    let more = by-more f n (ltb-false n 10 e) in
+    let long : length (front ++ (digit (n % 10) ∷ [])) ≡ suc (length front) = length-append front (digit (n % 10) ∷ []) ∙ add-one _ in
+    rw (more, long) (ap (λ l. l ++ (digit (n % 10) ∷ [])) ih)
+
+all-by : (f n : ℕ) → fixed (length (digitsBy f n)) n ≡ digitsBy f n
+unfolding digitsBy fixed
+all-by zero n = refl
+all-by (suc f) n = all-step f n (all-by f (n / 10)) (ltb n 10) refl
+
+pub fixed-all : (n : ℕ) → fixed (length (digits n)) n ≡ digits n
+unfolding digits
+fixed-all n = all-by mostDigits n
+
+pub width-one : (n : ℕ) → n < 10 → 1 ≡ length (digits n)
+width-one n h = sym (ap length (digits-one n h))
+
+pub width-more : (n w : ℕ) → 10 ≤ n → n < 2 ^ 64 → w ≡ length (digits (n / 10)) → 1 + w ≡ length (digits n)
+width-more n w h k e = omega (arith, e, ap length (digits-more n h k), length-append (digits (n / 10)) (digit (n % 10) ∷ []))
 
 -- ---- a price
 pub units-none : (p s : ℕ) → s ≡ 0 → p ≡ p / 10 ^ s

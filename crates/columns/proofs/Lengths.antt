@@ -27,7 +27,7 @@ by-at-most (suc f) n =
     cond-at-most (ltb n 10) (suc f) (digit n ∷ []) (digitsBy f (n / 10) ++ (digit (n % 10) ∷ [])) (omega arith)
     (omega (arith, length-append (digitsBy f (n / 10)) (digit (n % 10) ∷ []), by-at-most f (n / 10)))
 
-digits-at-most : (n : ℕ) → length (digits n) ≤ mostDigits
+pub digits-at-most : (n : ℕ) → length (digits n) ≤ mostDigits
 unfolding digits
 digits-at-most n = by-at-most mostDigits n
 

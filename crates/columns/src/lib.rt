@@ -86,11 +86,17 @@ fn put_fixed(l: Line, n: u64, w: usize) -> Line
 pub fn put_number(l: Line, n: u64) -> Line
     ensures { λ r. ⌜ Adds l (digits n) r ⌝ }
 {
+    put_fixed(l, n, width(n))
+}
+
+// How many digits n has.
+fn width(n: u64) -> usize
+    ensures { λ r. ⌜ r ≡ length (digits n) ⌝ }
+{
     if n < 10 {
-        return push(l, (48 + n) as u8);
+        return 1;
     }
-    let front = put_number(l, n / 10);
-    push(front, (48 + n % 10) as u8)
+    1 + width(n / 10)
 }
 
 // What stands before the last s digits of p: the units of a price at scale s.
