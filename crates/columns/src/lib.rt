@@ -162,8 +162,13 @@ pub fn bytes_column(l: Line, s: &[u8], n: usize) -> Line
         if s.len() <= i {
             return r;
         }
-        r = push(r, s[i]);
+        let b = s[i];
         i += 1;
+        let at = r.len;
+        if at < ROOM {
+            r.bytes[at] = b;
+            r.len = at + 1;
+        }
     }
     r
 }
@@ -178,8 +183,13 @@ pub fn text_column(l: Line, s: &[u8], n: usize) -> Line
         if s.len() <= i {
             return r;
         }
-        r = push(r, text_byte(s[i]));
+        let b = text_byte(s[i]);
         i += 1;
+        let at = r.len;
+        if at < ROOM {
+            r.bytes[at] = b;
+            r.len = at + 1;
+        }
     }
     r
 }

@@ -7,13 +7,12 @@ use lib.ListN.{length, take}
 use denote.Ref.{now}
 use borrow.Author.Needs.{needs}
 use Rattle.columns.specs.Text.{textByte}
-use Rattle.columns.specs.Held.{Adds}
-use Rattle.columns.proofs.Holding.{adds-nothing, adds-then, text-more, first-all}
+use Rattle.columns.proofs.Holding.{Grown, not-grown, grown-stays, grown-stored, adds-then, text-more, first-all}
 use Rattle.columns.proofs.text_column.Statement.{statement}
 use Rattle.columns.proofs.text_column.Tie as tie
 
 abbrev Inv-loop : tie.InvT-loop
-Inv-loop s n r₀ i₀ r i = (i ≤ n) × (i ≤ length s) × Adds r₀ (map textByte (take i s)) r
+Inv-loop s n r₀ i₀ r i = (i ≤ n) × (i ≤ length s) × Grown r₀ (map textByte (take i s)) r
 
 abbrev μ-loop : tie.MeasureT-loop
 μ-loop s n r₀ i₀ r i = n - i
@@ -22,13 +21,13 @@ put-separator-requires : tie.Need-put-separator-requires Inv-loop μ-loop
 put-separator-requires c κs = search needs
 
 loop-holds : tie.Need-loop-holds Inv-loop μ-loop
-loop-holds c = (search needs, search needs, adds-nothing _ (search needs))
+loop-holds c = (search needs, search needs, not-grown _ (search needs))
 
 returns : tie.Need-returns Inv-loop μ-loop
 returns c =
     let k = c .before .before in
     let a = k .before .before .before .args in
-    rw (← (first-all (now (a .s)) (k .loop .i) (a .n) (search needs) (search needs))) (adds-then (k .before .put-separator .ensures) (k .loop .inv .2))
+    rw (← (first-all (now (a .s)) (k .loop .i) (a .n) (search needs) (search needs))) (adds-then (k .before .put-separator .ensures) (k .loop .inv .2 .so-far))
 
 shared-slice-read-text-byte : tie.Need-shared-slice-read-text-byte Inv-loop μ-loop
 shared-slice-read-text-byte c = search needs
@@ -36,11 +35,14 @@ shared-slice-read-text-byte c = search needs
 text-byte-requires : tie.Need-text-byte-requires Inv-loop μ-loop
 text-byte-requires c κs = search needs
 
-push-requires : tie.Need-push-requires Inv-loop μ-loop
-push-requires c κs = search needs
-
 add-i : tie.Need-add-i Inv-loop μ-loop
 add-i c = search needs
+
+element-write-r : tie.Need-element-write-r Inv-loop μ-loop
+element-write-r c = search needs
+
+add-r : tie.Need-add-r Inv-loop μ-loop
+add-r c = search needs
 
 loop-less : tie.Need-loop-less Inv-loop μ-loop
 loop-less c = search needs
@@ -48,13 +50,21 @@ loop-less c = search needs
 loop-again : tie.Need-loop-again Inv-loop μ-loop
 loop-again c =
     let k = c .before .before .before .before .before in
-    (search needs, search needs, rw (text-more (now (k .before .before .before .args .s)) (k .loop .i) _ (search needs) (c .before .text-byte .ensures)) (adds-then (k .loop .inv .2) (c .push .ensures)))
+    (search needs, search needs, rw (text-more (now (k .before .before .before .args .s)) (k .loop .i) _ (search needs) (c .before .text-byte .ensures)) (grown-stored _ (k .loop .inv .2) (c .if2 .taken)))
+
+loop-less-2 : tie.Need-loop-less-2 Inv-loop μ-loop
+loop-less-2 c = search needs
+
+loop-again-2 : tie.Need-loop-again-2 Inv-loop μ-loop
+loop-again-2 c =
+    let k = c .before .before .before .before .before in
+    (search needs, search needs, rw (text-more (now (k .before .before .before .args .s)) (k .loop .i) _ (search needs) (c .before .text-byte .ensures)) (grown-stays _ (k .loop .inv .2) (c .if2 .left)))
 
 returns-2 : tie.Need-returns-2 Inv-loop μ-loop
 returns-2 c =
     let k = c .before in
     let e : k .loop .i ≡ k .before .before .before .args .n = omega arith in
-    rw (← e) (adds-then (k .before .put-separator .ensures) (k .loop .inv .2))
+    rw (← e) (adds-then (k .before .put-separator .ensures) (k .loop .inv .2 .so-far))
 
 pub text-column-spec : {M : Type 1} → statement M
 text-column-spec =
@@ -67,8 +77,11 @@ text-column-spec =
     returns
     shared-slice-read-text-byte
     text-byte-requires
-    push-requires
     add-i
+    element-write-r
+    add-r
     loop-less
     loop-again
+    loop-less-2
+    loop-again-2
     returns-2)
