@@ -46,21 +46,6 @@ adds-then {a} {b} {c} {x} {y} p q =
 pub adds-last : {a b : Line} {x : List ℕ} → Adds a x b → Adds a (x ++ []) b
 adds-last {a} {b} {x} p = rw (append-nil x) p
 
--- ---- a line that is added to byte by byte: r has its room, and adds x to l so far
-pub record Grown (l : Line) (x : List ℕ) (r : Line) : Type 0 where
-  pub roomy : length (r .bytes) ≡ room
-  pub so-far : Adds l x r
-
-pub not-grown : (l : Line) → length (l .bytes) ≡ room → Grown l [] l
-not-grown l e = record { roomy = e; so-far = adds-nothing l e }
-
-pub grown-stays : {l r : Line} {x : List ℕ} (b : ℕ) → Grown l x r → room ≤ r .len → Grown l (x ++ (b ∷ [])) r
-grown-stays {l} {r} {x} b g h = record { roomy = g .roomy; so-far = adds-then (g .so-far) (stays r b (g .roomy) h) }
-
-pub grown-stored : {l r : Line} {x : List ℕ} (b : ℕ) → Grown l x r → r .len < room →
-    Grown l (x ++ (b ∷ [])) (record { bytes = set (r .bytes) (r .len) b; len = r .len + 1 })
-grown-stored {l} {r} {x} b g h = record { roomy = length-set (r .bytes) (r .len) b ∙ g .roomy; so-far = adds-then (g .so-far) (stored r b (g .roomy) h) }
-
 pub holds-nothing : {a : Line} → held a ≡ [] → HoldsText [] a
 unfolding clip
 holds-nothing e = record { holds = e }
@@ -75,6 +60,21 @@ holds-then {x} {y} {a} {b} p q = record { holds = q .adds ∙ ap (λ l. clip (l 
 pub held-all : {x : List ℕ} {r : Line} → length x ≤ room → HoldsText x r → held r ≡ x
 unfolding clip
 held-all {x} {r} h p = p .holds ∙ take-all room x h
+
+-- ---- a line that is added to byte by byte: r has its room, and adds x to l so far
+pub record Grown (l : Line) (x : List ℕ) (r : Line) : Type 0 where
+  pub roomy : length (r .bytes) ≡ room
+  pub so-far : Adds l x r
+
+pub not-grown : (l : Line) → length (l .bytes) ≡ room → Grown l [] l
+not-grown l e = record { roomy = e; so-far = adds-nothing l e }
+
+pub grown-stays : {l r : Line} {x : List ℕ} (b : ℕ) → Grown l x r → room ≤ r .len → Grown l (x ++ (b ∷ [])) r
+grown-stays {l} {r} {x} b g h = record { roomy = g .roomy; so-far = adds-then (g .so-far) (stays r b (g .roomy) h) }
+
+pub grown-stored : {l r : Line} {x : List ℕ} (b : ℕ) → Grown l x r → r .len < room →
+    Grown l (x ++ (b ∷ [])) (record { bytes = set (r .bytes) (r .len) b; len = r .len + 1 })
+grown-stored {l} {r} {x} b g h = record { roomy = length-set (r .bytes) (r .len) b ∙ g .roomy; so-far = adds-then (g .so-far) (stored r b (g .roomy) h) }
 
 -- ---- how many bytes are held
 pub count-some : (xs : List ℕ) (n : ℕ) → length xs ≡ room → n ≤ room → n ≡ length (take n xs)
