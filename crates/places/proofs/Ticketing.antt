@@ -12,7 +12,7 @@ use Rattle.places.specs.Places.{symbols, shelf, firstWhere, has, placedI
 use Rattle.places.specs.Homes.{outside}
 use Rattle.places.specs.Tickets.{firstIn, ticket, Ticketed}
 use Rattle.places.proofs.Rounds.{inside, not-outside}
-use Rattle.places.proofs.Searching.{Passed, passed-hit, passed-more, passed-all, first-passes, none-counted, all-counted}
+use Rattle.places.proofs.Searching.{Passed, passed-hit, passed-more, passed-all, FirstFrom, from-the-end, from-here, from-the-next, from-the-first, first-passes, none-counted, all-counted}
 use Rattle.places.proofs.Shelves.{shelf-length, shelf-get}
 use Rattle.places.proofs.Tables.{first-alike}
 use Rattle.places.proofs.Mirroring.{map-set, map-replicated}
@@ -24,6 +24,9 @@ module _ (numbers : List ℕ) (from n number : ℕ) where
 
   abbrev pub Gone : ℕ → Type 0
   Gone j = Passed sought (take n (drop from numbers)) j
+
+  abbrev pub Back : ℕ → ℕ → Type 0
+  Back j r = FirstFrom sought (take n (drop from numbers)) j r
 
   pub first-outside : (out : Bool) → out ≡ outside from n (length numbers) → out ≡ true → n ≡ firstIn numbers from n number
   unfolding firstIn
@@ -45,6 +48,19 @@ module _ (numbers : List ℕ) (from n number : ℕ) where
 
     pub first-here : (j : ℕ) → j < n → sought (getD numbers (from + j) 0) ≡ true → Gone j → j ≡ firstIn numbers from n number
     first-here j h e g = first-is j (passed-hit sought (take n (drop from numbers)) j 0 (rw long h) (rw (at-place j h) e) g)
+
+    -- the same search from the last place to the first
+    pub back-end : Back n n
+    back-end = from-the-end sought (take n (drop from numbers)) n long
+
+    pub back-hit : (j : ℕ) → j < n → sought (getD numbers (from + j) 0) ≡ true → Back j j
+    back-hit j h e = from-here sought (take n (drop from numbers)) j 0 (rw long h) (rw (at-place j h) e)
+
+    pub back-miss : (j r : ℕ) → j < n → sought (getD numbers (from + j) 0) ≡ false → Back (j + 1) r → Back j r
+    back-miss j r h e b = from-the-next sought (take n (drop from numbers)) j 0 r (rw long h) (rw (at-place j h) e) b
+
+    pub back-first : (r : ℕ) → Back 0 r → r ≡ firstIn numbers from n number
+    back-first r b = let e = from-the-first sought (take n (drop from numbers)) r b in e ∙ first-is _ refl
 
     pub first-nowhere : (j : ℕ) → j ≤ n → n ≤ j → Gone j → n ≡ firstIn numbers from n number
     first-nowhere j h k g = let e : j ≡ n = omega arith in first-is n (passed-all sought (take n (drop from numbers)) n long (rw e at g))

@@ -95,5 +95,5 @@ pub fn first(numbers: &[u64], from: usize, each: u16, number: u64) -> usize
 fn is_held(live: bool, at: u64, number: u64) -> bool
     ensures { λ r. ⌜ r ≡ cond live (eqb at number) false ⌝ }
 {
-    if live { at == number } else { false }
+    if at == number { live } else { false }
 }

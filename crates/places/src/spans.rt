@@ -62,8 +62,8 @@ pub fn lowered<'a>(
 fn has_home(live: bool, number: u64, each: u16, home: usize) -> bool
     ensures { λ r. ⌜ r ≡ cond live (eqb (homeOf each number) home) false ⌝ }
 {
-    if live {
-        home_of(number, each) == home
+    if home_of(number, each) == home {
+        live
     } else {
         false
     }
