@@ -17,9 +17,6 @@ ghost use Rattle.symbols.specs.State.{noSymbol, nobody};
 // The longest name of a symbol, in bytes.
 pub const NAME: usize = 11;
 
-// The places of registration, as searches take their number.
-const EACH: u16 = SYMBOLS as u16;
-
 // Where a symbol stands: the number that it expects, whether it is refused until a clear, and whether its record is whole.
 #[repr(C)]
 pub struct Standing {

@@ -1,5 +1,4 @@
 // Registering, and where a symbol lies.
-use crate::EACH;
 use crate::NAME;
 use crate::Place;
 use crate::Standing;
@@ -150,11 +149,22 @@ impl Symbols {
     }
 }
 
-// The place of the symbol with this index among lent tickets, or SYMBOLS.
+// The place of the symbol with this index among lent tickets, or SYMBOLS. All eight are looked at, from the last to the first, so that no branch hangs on which symbol it is.
 pub fn seat(tickets: &[u64; SYMBOLS], index: u32) -> usize
     ensures { λ r. ⌜ r ≡ firstIn (now (tickets .entry)) 0 symbols (suc index) ⌝ }
 {
-    places::first(tickets, 0, EACH, index as u64 + 1)
+    // Lent as a slice, the tickets are known to be eight.
+    let all: &[u64] = tickets;
+    let ticket = index as u64 + 1;
+    let mut at: usize = SYMBOLS;
+    let mut j: usize = SYMBOLS;
+    while 0 < j {
+        j -= 1;
+        if all[j] == ticket {
+            at = j;
+        }
+    }
+    at
 }
 
 fn is_named(used: bool, at: u32, index: u32) -> bool
