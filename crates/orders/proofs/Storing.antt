@@ -6,15 +6,15 @@ use mathlib.Core.Path.{_≡_, refl, _∙_}
 use Prim.Native.Nat.{ℕ, _+_, _*_, _<_, _≤_}
 use native.Mathlib.Omega.{arith}
 use borrow.Author.Tests.{ltb-true, le-ltb}
-use lib.Dec.{ltb}
+use lib.Dec.{eqb, ltb}
 use lib.ListN.{length, getD, set, length-set}
 use Rattle.feed.specs.Reader.{Fit, fits}
 use Rattle.feed.specs.Book.{fitted}
 use Rattle.places.specs.Places.{symbols, placed, Lands, emptied}
-use Rattle.places.specs.Homes.{Mirrored, Near}
+use Rattle.places.specs.Homes.{leaves, Mirrored, Near}
 use Rattle.places.proofs.Emptied.{emptied-next, is-emptied}
 use Rattle.places.proofs.Landing.{shelf-placed}
-use Rattle.places.proofs.Nearness.{near-stored, near-emptied}
+use Rattle.places.proofs.Nearness.{as-many-spans, near-stored, near-emptied}
 use Rattle.places.proofs.Mirroring.{as-many-numbers, as-many-marks, mirrored-set, mirrored-emptied}
 use Rattle.places.proofs.EightShelves.{shelf-reach, nothing-past, store-own, store-other, store-singles, emptied-own, emptied-other, emptied-singles}
 use Rattle.orders.specs.State.{ordersEach, noOrder, orderNumber, orderLive, shelfAt, liveAt, Sized, Wf}
@@ -47,7 +47,7 @@ module _ (b : Orders) (k : ℕ) (h : k < symbols) (s : Sized b) (i : ℕ) (o : O
   store-sized = go (ltb i ordersEach) refl
     where
       go : (t : Bool) → ltb i ordersEach ≡ t → Sized (withOrder b k i o)
-      go true e = rw e (record { places = rw length-set (s .places); spans = rw (length-set, length-set) (s .spans) })
+      go true e = rw e (record { places = rw length-set (s .places); spans = rw as-many-spans (s .spans) })
       go false e = rw e s
 
   store-mirrored : Wf b → Mirrored orderNumber orderLive (withOrder b k i o .places) (withOrder b k i o .numbers) (withOrder b k i o .lives)
@@ -63,7 +63,8 @@ module _ (b : Orders) (k : ℕ) (h : k < symbols) (s : Sized b) (i : ℕ) (o : O
       go : (t : Bool) → ltb i ordersEach ≡ t → Near (withOrder b k i o .numbers) (withOrder b k i o .lives) (withOrder b k i o .spans) (m * ordersEach) ordersEach
       go true e =
           rw e (near-stored (b .numbers) (b .lives) (b .spans) ordersEach k (in-numbers b k h s w) (in-lives b k h s w) (in-spans b k h s)
-          i (o .number) (o .live) (getD (b .numbers) (k * ordersEach + i) 0) (ltb-true i ordersEach e) m (w .near m g))
+          i (o .number) (o .live) (getD (b .numbers) (k * ordersEach + i) 0) (ltb-true i ordersEach e)
+          (leaves (getD (b .lives) (k * ordersEach + i) false) (o .live) (eqb (getD (b .numbers) (k * ordersEach + i) 0) (o .number))) m (w .near m g))
       go false e = rw e (w .near m g)
 
   module _ (os : List Order) (p : Lands orderNumber orderLive ordersEach (shelfAt b k) i o os) where

@@ -14,7 +14,9 @@ use places::lowered;
 use places::raised;
 ghost use mathlib.Core.Path.{_≡_};
 ghost use Prim.Native.Nat.{_<_};
+ghost use lib.Dec.{eqb};
 ghost use Rattle.places.specs.Places.{symbols};
+ghost use Rattle.places.specs.Homes.{leaves};
 ghost use Rattle.orders.specs.State.{ordersEach};
 ghost use Rattle.orders.specs.Deciding.{withOrder, settledAt, emptiedTo, beside, besideWith, Mirrors};
 
@@ -115,7 +117,7 @@ pub fn mirror(
     mirror_one(numbers, lives, spans, k, place, o.number, o.live);
 }
 
-// The same of one place. The span of the new number's home is raised as far as it lies; that of the home of the number that stood there is lowered to the last order of that home.
+// The same of one place. The span of the new number's home is raised as far as it lies; where a live number leaves the place, that of its home is lowered to the last order of that home.
 fn mirror_one(
     numbers: &mut [u64; PLACES],
     lives: &mut [bool; PLACES],
@@ -134,14 +136,30 @@ fn mirror_one(
     let from = k * ORDERS;
     let at = from + i;
     let was = numbers[at];
+    let lived = lives[at];
     numbers[at] = number;
     lives[at] = live;
     let gains = from + home_of(number, EACH);
     let span = spans[gains];
     let more = raised(span, EACH, number, live, i);
     spans[gains] = more;
-    let loses = from + home_of(was, EACH);
-    let span = spans[loses];
-    let less = lowered(numbers, lives, span, from, EACH, was);
-    spans[loses] = less;
+    if leaves(lived, was, number, live) {
+        let loses = from + home_of(was, EACH);
+        let span = spans[loses];
+        let less = lowered(numbers, lives, span, from, EACH, was);
+        spans[loses] = less;
+    }
+}
+
+// Whether a live number leaves a place that is stored to.
+fn leaves(lived: bool, was: u64, number: u64, live: bool) -> bool
+    ensures { λ r. ⌜ r ≡ leaves lived live (eqb was number) ⌝ }
+{
+    if lived {
+        if live {
+            return was != number;
+        }
+        return true;
+    }
+    false
 }

@@ -7,7 +7,7 @@ use Prim.Native.Nat.{ℕ, zero, suc, _+_, _<_}
 use native.Mathlib.Omega.{arith}
 use lib.Dec.{ltb}
 use lib.ListN.{getD}
-use Rattle.places.specs.Homes.{homeOf, roundFrom, awayFrom, firstRound, lastRound, outside, soughtIn, freeIn, raisedTo, loweredTo, spansAfter, Mirrored, Near}
+use Rattle.places.specs.Homes.{homeOf, roundFrom, awayFrom, firstRound, lastRound, outside, soughtIn, freeIn, raisedTo, loweredTo, leaves, spansAfter, Mirrored, Near}
 
 -- the halves of both have the sum 3
 abbrev at-home : ℕ
@@ -71,13 +71,31 @@ room-from-the-home-on = refl
 -- a store at the first place: the second number comes to the one at home; it gives way to 1; it goes. The span of the home that gains reaches as far as the number lies, that of the home
 -- that loses as far as the one at home, past whatever else is live
 pub comes : spansAfter (0 ∷ 0 ∷ 0 ∷ at-home ∷ []) (false ∷ false ∷ false ∷ true ∷ []) (0 ∷ 0 ∷ 0 ∷ 1 ∷ []) 0 4 0 beside true ≡ spans
-unfolding raisedTo loweredTo outside homeOf awayFrom lastRound roundFrom
+unfolding leaves raisedTo loweredTo outside homeOf awayFrom lastRound roundFrom
 comes = refl
 
 pub gives-way : spansAfter numbers lives spans 0 4 0 1 true ≡ 0 ∷ 0 ∷ 3 ∷ 1 ∷ []
-unfolding raisedTo loweredTo outside homeOf awayFrom lastRound roundFrom
+unfolding leaves raisedTo loweredTo outside homeOf awayFrom lastRound roundFrom
 gives-way = refl
 
 pub goes : spansAfter numbers lives spans 0 4 0 0 false ≡ 0 ∷ 0 ∷ 0 ∷ 1 ∷ []
-unfolding raisedTo loweredTo outside homeOf awayFrom lastRound roundFrom
+unfolding leaves raisedTo loweredTo outside homeOf awayFrom lastRound roundFrom
 goes = refl
+
+-- where the number stays, nothing is lowered, however far the span reaches; where it goes, that span is lowered to the one at home, and so it is where the mark goes and the number stays
+pub stays : spansAfter numbers lives (0 ∷ 0 ∷ 0 ∷ 4 ∷ []) 0 4 0 beside true ≡ 0 ∷ 0 ∷ 0 ∷ 4 ∷ []
+unfolding leaves raisedTo loweredTo outside homeOf awayFrom lastRound roundFrom
+stays = refl
+
+pub goes-from-afar : spansAfter numbers lives (0 ∷ 0 ∷ 0 ∷ 4 ∷ []) 0 4 0 0 false ≡ 0 ∷ 0 ∷ 0 ∷ 1 ∷ []
+unfolding leaves raisedTo loweredTo outside homeOf awayFrom lastRound roundFrom
+goes-from-afar = refl
+
+pub mark-goes : spansAfter numbers lives (0 ∷ 0 ∷ 0 ∷ 4 ∷ []) 0 4 0 beside false ≡ 0 ∷ 0 ∷ 0 ∷ 1 ∷ []
+unfolding leaves raisedTo loweredTo outside homeOf awayFrom lastRound roundFrom
+mark-goes = refl
+
+-- nothing was live at the second place, so nothing leaves it
+pub none-was-live : spansAfter numbers lives (0 ∷ 0 ∷ 0 ∷ 4 ∷ []) 0 4 1 0 false ≡ 0 ∷ 0 ∷ 0 ∷ 4 ∷ []
+unfolding leaves raisedTo loweredTo outside homeOf awayFrom lastRound roundFrom
+none-was-live = refl

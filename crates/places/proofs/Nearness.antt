@@ -1,6 +1,6 @@
--- What is live lies within the span of its home, so a search that has gone that far has met it. A store raises the span of the home that gains a number and lowers that of the
--- home that loses one; in between, and after it, everything stays within its span.
-use mathlib.Core.Bool.{Bool, true, false, not, false≢true, true≢false}
+-- What is live lies within the span of its home, so a search that has gone that far has met it. A store raises the span of the home that gains a number and lowers that of a
+-- home that loses one; in between, and after it, everything stays within its span. A span that isn't lowered is at most too long.
+use mathlib.Core.Bool.{Bool, true, false, cond, not, false≢true, true≢false}
 use mathlib.Core.List.{List}
 use mathlib.Core.Path.{_≡_, refl, sym, ap, _∙_}
 use Prim.Native.Nat.{ℕ, _+_, _*_, _<_, _≤_, min}
@@ -10,7 +10,7 @@ use lib.Dec.{eqb, leb}
 use lib.ListN.{length, getD, set, length-set, replicate}
 use lib.Seq.{getD-set-same, getD-set-other}
 use Rattle.places.specs.Places.{shelf, emptied, EmptiedTo}
-use Rattle.places.specs.Homes.{homeOf, awayFrom, firstRound, lastRound, holds, homed, soughtIn, freeIn, raisedTo, loweredTo, raisedAt, loweredAt, Near}
+use Rattle.places.specs.Homes.{homeOf, awayFrom, firstRound, lastRound, holds, homed, soughtIn, freeIn, raisedTo, loweredTo, raisedAt, loweredAt, leaves, spansAfter, Near}
 use Rattle.places.proofs.Shelves.{shelf-get, shelf-other, shelf-replicated}
 use Rattle.places.proofs.Emptied.{is-emptied}
 use Rattle.places.proofs.Sought.{sought-inside, free-inside, lowered-inside}
@@ -175,9 +175,17 @@ module _ (n k : ℕ) where
   pub near-new : (long : ℕ) → Near (replicate long 0) (replicate long false) (replicate long 0) (k * n) n
   near-new long = near-empty (replicate long 0) (replicate long false) (replicate long 0) (λ i h. shelf-replicated false n k long i)
 
+-- ---- a store leaves as many spans as there were
+pub as-many-spans : (numbers : List ℕ) (lives : List Bool) (spans : List ℕ) (from n i number : ℕ) (live : Bool) → length (spansAfter numbers lives spans from n i number live) ≡ length spans
+as-many-spans numbers lives spans from n i number live = go (leaves (getD lives (from + i) false) live (eqb (getD numbers (from + i) 0) number)) refl
+  where
+    go : (t : Bool) → leaves (getD lives (from + i) false) live (eqb (getD numbers (from + i) 0) number) ≡ t → length (spansAfter numbers lives spans from n i number live) ≡ length spans
+    go true e = rw (e, length-set, length-set)
+    go false e = rw (e, length-set)
+
 -- ---- a change on shelf k keeps every shelf near
 module _ (numbers : List ℕ) (lives : List Bool) (spans : List ℕ) (n k : ℕ) (in-numbers : k * n + n ≤ length numbers) (in-lives : k * n + n ≤ length lives) (in-spans : k * n + n ≤ length spans) where
-  -- a number stored at place i, whichever home is lowered then
+  -- a number stored at place i, whichever home is lowered then, if one is
   module _ (i number : ℕ) (live : Bool) (was : ℕ) (g : i < n) where
     abbrev stored : List ℕ
     stored = set numbers (k * n + i) number
@@ -188,30 +196,31 @@ module _ (numbers : List ℕ) (lives : List Bool) (spans : List ℕ) (n k : ℕ)
     abbrev reaching : List ℕ
     reaching = raisedAt spans (k * n) n i number live
 
-    abbrev settled : List ℕ
-    settled = loweredAt stored marked reaching (k * n) n was
+    abbrev settled : Bool → List ℕ
+    settled gone = cond gone (loweredAt stored marked reaching (k * n) n was) reaching
 
     some : 0 < n
     some = omega (arith, g)
 
-    stored-here : Near numbers lives spans (k * n) n → Near stored marked settled (k * n) n
-    stored-here near =
+    stored-here : (gone : Bool) → Near numbers lives spans (k * n) n → Near stored marked (settled gone) (k * n) n
+    stored-here true near =
         lowered-near stored marked reaching (k * n) n was some (rw length-set in-numbers) (rw length-set in-lives) (rw length-set in-spans)
         (raised-near numbers lives spans (k * n) n i number live g in-numbers in-lives in-spans near)
+    stored-here false near = raised-near numbers lives spans (k * n) n i number live g in-numbers in-lives in-spans near
 
-    stored-elsewhere : (m : ℕ) → (m ≡ k → ⊥) → Near numbers lives spans (m * n) n → Near stored marked settled (m * n) n
-    stored-elsewhere m ne near = near-alike n m numbers stored lives marked spans settled
-        (shelf-other n k numbers i number m g ne)
-        (shelf-other n k lives i live m g ne)
-        (shelf-other n k reaching (homeOf n was) _ m (home-within n was some) ne ∙ shelf-other n k spans (homeOf n number) _ m (home-within n number some) ne)
-        near
+    spans-elsewhere : (gone : Bool) (m : ℕ) → (m ≡ k → ⊥) → shelf n m (settled gone) ≡ shelf n m spans
+    spans-elsewhere true m ne = shelf-other n k reaching (homeOf n was) _ m (home-within n was some) ne ∙ shelf-other n k spans (homeOf n number) _ m (home-within n number some) ne
+    spans-elsewhere false m ne = shelf-other n k spans (homeOf n number) _ m (home-within n number some) ne
 
-    pub near-stored : (m : ℕ) → Near numbers lives spans (m * n) n → Near stored marked settled (m * n) n
-    near-stored m near = go (eqb m k) refl
+    stored-elsewhere : (gone : Bool) (m : ℕ) → (m ≡ k → ⊥) → Near numbers lives spans (m * n) n → Near stored marked (settled gone) (m * n) n
+    stored-elsewhere gone m ne near = near-alike n m numbers stored lives marked spans (settled gone) (shelf-other n k numbers i number m g ne) (shelf-other n k lives i live m g ne) (spans-elsewhere gone m ne) near
+
+    pub near-stored : (gone : Bool) (m : ℕ) → Near numbers lives spans (m * n) n → Near stored marked (settled gone) (m * n) n
+    near-stored gone m near = go (eqb m k) refl
       where
-        go : (t : Bool) → eqb m k ≡ t → Near stored marked settled (m * n) n
-        go true e = let q = eqb-true m k e in rw q (stored-here (rw q at near))
-        go false e = stored-elsewhere m (eqb-false m k e) near
+        go : (t : Bool) → eqb m k ≡ t → Near stored marked (settled gone) (m * n) n
+        go true e = let q = eqb-true m k e in rw q (stored-here gone (rw q at near))
+        go false e = stored-elsewhere gone m (eqb-false m k e) near
 
   -- every place emptied
   pub near-emptied : (m : ℕ) → Near numbers lives spans (m * n) n → Near (emptied n k 0 numbers n) (emptied n k false lives n) (emptied n k 0 spans n) (m * n) n

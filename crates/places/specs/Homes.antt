@@ -83,10 +83,19 @@ raisedAt spans from n i number live = set spans (from + homeOf n number) (raised
 abbrev pub loweredAt : List ℕ → List Bool → List ℕ → ℕ → ℕ → ℕ → List ℕ
 loweredAt numbers lives spans from n was = set spans (from + homeOf n was) (loweredTo numbers lives from n was (getD spans (from + homeOf n was) 0))
 
--- the spans after a store at place i, where the number that stood there gives way to another one: that of the new one's home is raised, then that of the old one's is lowered
+-- whether a live number leaves a place that is stored to: one was live there, and afterwards none is, or another number stands there
+unfoldable pub leaves : Bool → Bool → Bool → Bool
+--     lived  live   same number
+leaves false live same = false
+leaves true false same = true
+leaves true true same = not same
+
+-- the spans after a store at place i: that of the new number's home is raised; then, where a live number leaves the place, that of its home is lowered
 abbrev pub spansAfter : List ℕ → List Bool → List ℕ → ℕ → ℕ → ℕ → ℕ → Bool → List ℕ
 spansAfter numbers lives spans from n i number live =
-    loweredAt (set numbers (from + i) number) (set lives (from + i) live) (raisedAt spans from n i number live) from n (getD numbers (from + i) 0)
+    cond (leaves (getD lives (from + i) false) live (eqb (getD numbers (from + i) 0) number))
+    (loweredAt (set numbers (from + i) number) (set lives (from + i) live) (raisedAt spans from n i number live) from n (getD numbers (from + i) 0))
+    (raisedAt spans from n i number live)
 
 -- ---- what holds wherever searches are made
 -- the numbers and the marks are those of the elements

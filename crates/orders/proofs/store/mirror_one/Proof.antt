@@ -1,4 +1,5 @@
 -- Each array is stored to as its definition says. A place past the shelf changes nothing.
+use mathlib.Core.Path.{sym, _∙_}
 use native.Mathlib.Omega.{arith}
 use borrow.Author.Tests.{lt-ltb, le-ltb}
 use Rattle.orders.proofs.Sizes.{home-in}
@@ -20,6 +21,9 @@ mul-was c = search needs
 
 element-copy-out-was : tie.Need-element-copy-out-was
 element-copy-out-was c = search needs
+
+element-copy-out-lived : tie.Need-element-copy-out-lived
+element-copy-out-lived c = search needs
 
 mul-numbers : tie.Need-mul-numbers
 mul-numbers c = search needs
@@ -51,6 +55,9 @@ mul-spans c = omega (arith, home-in _ _ (c .before .before .home-of .ensures))
 element-write-spans : tie.Need-element-write-spans
 element-write-spans c = omega (arith, home-in _ _ (c .before .before .home-of .ensures))
 
+leaves-requires : tie.Need-leaves-requires
+leaves-requires c κs = search needs
+
 home-of-requires-2 : tie.Need-home-of-requires-2
 home-of-requires-2 c κs = search needs
 
@@ -75,8 +82,15 @@ element-write-spans-2 c = omega (arith, home-in _ _ (c .before .before .before .
 returns-2 : tie.Need-returns-2
 returns-2 c =
     let l = c .before .before .before .before .before .before in
-    let g = l .before .before .before in
-    rw (c .lowered .ensures, l .before .raised .ensures, g .home-of .ensures, l .home-of2 .ensures, lt-ltb _ _ (g .before .before .if1 .left))
+    let s = l .before .before in
+    let g = s .before .before .before in
+    rw (c .lowered .ensures, sym (s .leaves .ensures) ∙ l .before .if2 .taken, s .before .raised .ensures, g .home-of .ensures, l .home-of2 .ensures, lt-ltb _ _ (g .before .before .before .if1 .left))
+
+returns-3 : tie.Need-returns-3
+returns-3 c =
+    let s = c .before in
+    let g = s .before .before .before in
+    rw (sym (s .leaves .ensures) ∙ c .if2 .left, s .before .raised .ensures, g .home-of .ensures, lt-ltb _ _ (g .before .before .before .if1 .left))
 
 pub mirror-one-spec : {M : Type 1} → statement M
 mirror-one-spec =
@@ -87,6 +101,7 @@ mirror-one-spec =
     add-at
     mul-was
     element-copy-out-was
+    element-copy-out-lived
     mul-numbers
     element-write-numbers
     element-write-lives
@@ -97,6 +112,7 @@ mirror-one-spec =
     raised-requires
     mul-spans
     element-write-spans
+    leaves-requires
     home-of-requires-2
     add-loses
     mul-span-2
@@ -104,4 +120,5 @@ mirror-one-spec =
     lowered-requires
     mul-spans-2
     element-write-spans-2
-    returns-2)
+    returns-2
+    returns-3)
