@@ -49,13 +49,31 @@ pub(crate) fn get8(s: &[u8], a: usize, e: usize) -> u8
     get(s, a, e) as u8
 }
 
-// The bytes from a up to e, and zeros after them.
+// The bytes from a up to e, and zeros after them. No bytes, four and five are the usual ones: they are stored one by one, so that no copying call is made for so few.
 pub(crate) fn plain_at(s: &[u8], a: usize, e: usize) -> [u8; PLAIN]
     requires { ⌜ (a ≤ e) × (e ≤ a + plainRoom) × (e ≤ length (now s)) ⌝ }
     ensures { λ r. ⌜ r ≡ paddedPlain (slice a e (now (s .entry))) ⌝ }
 {
     let n = e - a;
     let mut r = [0u8; PLAIN];
+    if n == 0 {
+        return r;
+    }
+    if n == 4 {
+        r[0] = s[a];
+        r[1] = s[a + 1];
+        r[2] = s[a + 2];
+        r[3] = s[a + 3];
+        return r;
+    }
+    if n == 5 {
+        r[0] = s[a];
+        r[1] = s[a + 1];
+        r[2] = s[a + 2];
+        r[3] = s[a + 3];
+        r[4] = s[a + 4];
+        return r;
+    }
     let mut i = 0;
     while i < n {
         r[i] = s[a + i];
