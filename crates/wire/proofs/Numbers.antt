@@ -2,7 +2,7 @@
 use mathlib.Core.Path.{_≡_, refl, sym, ap, _∙_}
 use mathlib.Core.List.{List, [], _∷_, _++_, append-nil}
 use Prim.Native.Nat.{ℕ, zero, suc, _+_, _*_, _-_, _/_, _%_, _^_, _≤_, _<_}
-use native.Mathlib.Nat.{pow-suc, pow-le-pow-right}
+use native.Mathlib.Nat.{zero-add, one-mul, mul-comm, mul-assoc, pow-zero, pow-suc, pow-le-pow-right}
 use native.Mathlib.Numerals.{add-one}
 use native.Mathlib.Omega.{arith}
 use lib.ListN.{length, take, drop, set, getD, take-append-drop}
@@ -24,6 +24,33 @@ pub value-before : (s : List ℕ) (i e : ℕ) → 0 < i → i ≤ e → e ≤ le
 value-before s i e p h k =
     let q : suc (i - 1) ≡ i = omega arith in
     sym (value-cons s (i - 1) e (omega arith) k ∙ ap (λ (j : ℕ). getD s (i - 1) 0 + 256 * valueAt s j e) q)
+
+-- ---- bytes written out
+
+pub value-one : (s : List ℕ) (a e : ℕ) → a < e → e ≤ a + 1 → e ≤ length s → getD s a 0 ≡ valueAt s a e
+value-one s a e h l k = let q : suc a ≡ e = omega (arith, h, l) in sym (value-cons s a e h k ∙ rw (q, value-empty s e) (omega arith))
+
+pub value-two : (s : List ℕ) (a : ℕ) → a + 2 ≤ length s → getD s a 0 + 256 * getD s (a + 1) 0 ≡ valueAt s a (a + 2)
+value-two s a k =
+    let q : suc a ≡ a + 1 = omega arith in
+    sym (value-cons s a (a + 2) (omega arith) k ∙ rw q (ap (λ (x : ℕ). getD s a 0 + 256 * x) (sym (value-one s (a + 1) (a + 2) (omega arith) (omega arith) k))))
+
+-- two parts, the first of w bytes
+value-joined : (s : List ℕ) (w a m e : ℕ) → a + w ≡ m → m ≤ e → e ≤ length s → valueAt s a m + 256 ^ w * valueAt s m e ≡ valueAt s a e
+value-joined s zero a m e p h k = let q : a ≡ m = omega (arith, p) in rw (q, value-empty s m, zero-add, pow-zero, one-mul)
+value-joined s (suc w) a m e p h k =
+    let ih = value-joined s w (suc a) m e (omega (arith, p)) h k in
+    let x = value-cons s a m (omega (arith, p)) (omega (arith, h, k)) in
+    let y = value-cons s a e (omega (arith, p, h)) k in
+    rw (pow-suc, mul-comm (256 ^ w) 256, mul-assoc) (omega (arith, ih, x, y))
+
+pub value-four : (s : List ℕ) (a : ℕ) → a + 4 ≤ length s → valueAt s a (a + 2) + 65536 * valueAt s (a + 2) (a + 2 + 2) ≡ valueAt s a (a + 4)
+value-four s a k = let q : a + 2 + 2 ≡ a + 4 = omega arith in rw q (value-joined s 2 a (a + 2) (a + 4) refl (omega arith) k)
+
+pub value-eight : (s : List ℕ) (a : ℕ) → a + 8 ≤ length s → valueAt s a (a + 4) + 4294967296 * valueAt s (a + 4) (a + 4 + 4) ≡ valueAt s a (a + 8)
+value-eight s a k = let q : a + 4 + 4 ≡ a + 8 = omega arith in rw q (value-joined s 4 a (a + 4) (a + 8) refl (omega arith) k)
+
+-- ---- how large a number is
 
 pub below-with-one-more : (b r i e : ℕ) → 0 < i → i ≤ e → b < 256 → r < 256 ^ (e - i) → b + 256 * r < 256 ^ (e - (i - 1))
 below-with-one-more b r i e p h hb hr =

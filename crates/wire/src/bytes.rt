@@ -13,11 +13,14 @@ fn wide(x: u8) -> u64
     x as u64
 }
 
-// The number of the bytes from a up to e, least significant first.
+// The number of the bytes from a up to e, least significant first. Eight are the usual ones, and are read without a loop.
 pub(crate) fn get(s: &[u8], a: usize, e: usize) -> u64
     requires { ⌜ (a ≤ e) × (e ≤ a + 8) × (e ≤ length (now s)) ⌝ }
     ensures { λ r. ⌜ (r ≡ valueAt (now (s .entry)) a e) × (r < 256 ^ (e - a)) ⌝ }
 {
+    if e - a == 8 {
+        return eight(s, a);
+    }
     let mut r: u64 = 0;
     let mut i = e;
     while a < i {
@@ -27,11 +30,14 @@ pub(crate) fn get(s: &[u8], a: usize, e: usize) -> u64
     r
 }
 
-// The same for at most four, two and one bytes.
+// The same for at most four, two and one bytes, which are the usual ones too.
 pub(crate) fn get32(s: &[u8], a: usize, e: usize) -> u32
     requires { ⌜ (a ≤ e) × (e ≤ a + 4) × (e ≤ length (now s)) ⌝ }
     ensures { λ r. ⌜ r ≡ valueAt (now (s .entry)) a e ⌝ }
 {
+    if e - a == 4 {
+        return four(s, a) as u32;
+    }
     get(s, a, e) as u32
 }
 
@@ -39,6 +45,9 @@ pub(crate) fn get16(s: &[u8], a: usize, e: usize) -> u16
     requires { ⌜ (a ≤ e) × (e ≤ a + 2) × (e ≤ length (now s)) ⌝ }
     ensures { λ r. ⌜ r ≡ valueAt (now (s .entry)) a e ⌝ }
 {
+    if e - a == 2 {
+        return two(s, a) as u16;
+    }
     get(s, a, e) as u16
 }
 
@@ -46,7 +55,32 @@ pub(crate) fn get8(s: &[u8], a: usize, e: usize) -> u8
     requires { ⌜ (a ≤ e) × (e ≤ a + 1) × (e ≤ length (now s)) ⌝ }
     ensures { λ r. ⌜ r ≡ valueAt (now (s .entry)) a e ⌝ }
 {
-    get(s, a, e) as u8
+    if a < e {
+        return s[a];
+    }
+    0
+}
+
+// The number of the eight, four and two bytes from a on.
+fn eight(s: &[u8], a: usize) -> u64
+    requires { ⌜ a + 8 ≤ length (now s) ⌝ }
+    ensures { λ r. ⌜ (r ≡ valueAt (now (s .entry)) a (a + 8)) × (r < 256 ^ 8) ⌝ }
+{
+    four(s, a) + 4294967296 * four(s, a + 4)
+}
+
+fn four(s: &[u8], a: usize) -> u64
+    requires { ⌜ a + 4 ≤ length (now s) ⌝ }
+    ensures { λ r. ⌜ (r ≡ valueAt (now (s .entry)) a (a + 4)) × (r < 256 ^ 4) ⌝ }
+{
+    two(s, a) + 65536 * two(s, a + 2)
+}
+
+fn two(s: &[u8], a: usize) -> u64
+    requires { ⌜ a + 2 ≤ length (now s) ⌝ }
+    ensures { λ r. ⌜ (r ≡ valueAt (now (s .entry)) a (a + 2)) × (r < 256 ^ 2) ⌝ }
+{
+    wide(s[a]) + 256 * wide(s[a + 1])
 }
 
 // The bytes from a up to e, and zeros after them. No bytes, four and five are the usual ones: they are stored one by one, so that no copying call is made for so few.

@@ -1,6 +1,6 @@
--- Going from the last byte to the first, r is the number of the bytes passed: each turn takes one byte more in front (`value-before`).
-use Prim.Native.Nat.{_-_, _^_, _<_, _≤_}
-use mathlib.Core.Path.{_≡_, sym}
+-- Eight bytes are written out. Else, going from the last byte to the first, r is the number of the bytes passed: each turn takes one byte more in front (`value-before`).
+use Prim.Native.Nat.{ℕ, _+_, _-_, _^_, _<_, _≤_}
+use mathlib.Core.Path.{_≡_, sym, ap, subst, _∙_}
 use native.Mathlib.Omega.{arith}
 use native.Mathlib.Nat.{one-le-pow}
 use borrow.Author.Needs.{needs}
@@ -16,10 +16,24 @@ Inv-loop s a e r₀ i₀ r i = (a ≤ i) × (i ≤ e) × (r ≡ valueAt s i e) �
 abbrev μ-loop : tie.MeasureT-loop
 μ-loop s a e r₀ i₀ r i = i
 
+sub-if1 : tie.Need-sub-if1 Inv-loop μ-loop
+sub-if1 c = omega arith
+
+eight-requires : tie.Need-eight-requires Inv-loop μ-loop
+eight-requires c κs = omega arith
+
+returns : tie.Need-returns Inv-loop μ-loop
+returns c =
+    let a = c .before .before .before .args in
+    let p : a .a + 8 ≡ a .e = omega arith in
+    let w : 8 ≡ a .e - a .a = omega arith in
+    (c .eight .ensures .0 ∙ ap (λ (e : ℕ). valueAt (now (a .s)) (a .a) e) p, subst (λ (n : ℕ). c .eight .result < 256 ^ n) w (c .eight .ensures .1))
+
 loop-holds : tie.Need-loop-holds Inv-loop μ-loop
 loop-holds c =
-    let e = c .before .args .e in
-    (omega arith, omega arith, sym (value-empty (now (c .before .args .s)) e), one-le-pow (e - e) 256 (omega arith))
+    let a = c .before .before .args in
+    let e = a .e in
+    (omega arith, omega arith, sym (value-empty (now (a .s)) e), one-le-pow (e - e) 256 (omega arith))
 
 sub-i : tie.Need-sub-i Inv-loop μ-loop
 sub-i c = omega arith
@@ -42,7 +56,7 @@ loop-less c = omega arith
 loop-again : tie.Need-loop-again Inv-loop μ-loop
 loop-again c =
     let k = c .before .before .before in
-    let a = k .before .before .args in
+    let a = k .before .before .before .args in
     let b = c .before .shared-slice-known2 .given (k .loop .i - 1) in (
       omega arith,
       omega arith,
@@ -50,10 +64,10 @@ loop-again c =
       below-with-one-more (c .wide .result) (k .loop .r) (k .loop .i) (a .e) (omega arith) (omega arith) (omega (arith, b)) (k .loop .inv .3),
     )
 
-returns : tie.Need-returns Inv-loop μ-loop
-returns c =
+returns-2 : tie.Need-returns-2 Inv-loop μ-loop
+returns-2 c =
     let k = c .before in
-    let p : k .loop .i ≡ k .before .before .args .a = omega arith in
+    let p : k .loop .i ≡ k .before .before .before .args .a = omega arith in
     (rw p at (k .loop .inv .2), rw p at (k .loop .inv .3))
 
 pub get-spec : {M : Type 1} → statement M
@@ -62,6 +76,9 @@ get-spec =
     (tie.spec
     Inv-loop
     μ-loop
+    sub-if1
+    eight-requires
+    returns
     loop-holds
     sub-i
     shared-slice-read-wide
@@ -70,4 +87,4 @@ get-spec =
     add-r
     loop-less
     loop-again
-    returns)
+    returns-2)
