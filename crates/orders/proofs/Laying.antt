@@ -11,7 +11,7 @@ use Rattle.feed.specs.Reader.{Fit}
 use Rattle.places.specs.Places.{symbols, placedIn, spotIn}
 use Rattle.places.proofs.Landing.{spot-within}
 use Rattle.orders.specs.State.{ordersEach, noOrder, shelfAt, Wf}
-use Rattle.orders.specs.Deciding.{Beside, besides, besideWith, withOrder, Mirrors, LandsAs, laidIn, Decides, settledAt, Settled, fits-as, stays-as}
+use Rattle.orders.specs.Deciding.{Beside, besides, besideWith, withOrder, Mirrors, LandsAs, laidIn, Decides, landedIn, settledAt}
 use Rattle.orders.specs.Promises.{Obeys}
 use Rattle.orders.specs.declared.Order.{Order}
 use Rattle.orders.specs.declared.Orders.{Orders}
@@ -73,14 +73,13 @@ module _ (b : Orders) (k i : ℕ) (o : Order) (m : Beside) (e : m ≡ besideWith
   stored-there h = stored-with (set (b .places) (k * ordersEach + i) o) (rw (lt-ltb i ordersEach h))
 
 -- ---- so what is stored in place is what the rule says
-settled-as : (b : Orders) (k : ℕ) (v : Verdict) (gone place : ℕ) (o : Order) → Settled v gone place o → settledAt b k v ≡ record { orders = withOrder (withOrder b k gone noOrder) k place o; fit = code.Fit.Fits }
-settled-as b k v gone place o fits-as = refl
-settled-as b k v gone place o stays-as = refl
+settled-as : (b : Orders) (k : ℕ) (v : Verdict) → v .fit ≡ code.Fit.Fits → settledAt b k v ≡ record { orders = landedIn b k (v .gone) (v .place) (v .order); fit = code.Fit.Fits }
+settled-as b k v e = rw e
 
-module _ (b : Orders) (k : ℕ) (h : k < symbols) (w : Wf b) (v : Verdict) (gone place : ℕ) (o : Order) (s : Settled v gone place o) (i : ℕ) (r : Landing) (p : LandsAs k gone place o i (getD (b .places) (spotIn ordersEach k i) noOrder) r)
+module _ (b : Orders) (k : ℕ) (h : k < symbols) (w : Wf b) (v : Verdict) (s : v .fit ≡ code.Fit.Fits) (i : ℕ) (r : Landing) (p : LandsAs k (v .gone) (v .place) (v .order) i (getD (b .places) (spotIn ordersEach k i) noOrder) r)
     (m : Beside) (n : Mirrors (besides b) k (r .gone) (r .place) (r .order) m) where
-  laid-is : laidIn b r m ≡ withOrder (withOrder b k gone noOrder) k place o
+  laid-is : laidIn b r m ≡ landedIn b k (v .gone) (v .place) (v .order)
   laid-is = let q = p .mirrors (besides b) m n in λ j. record { places = p .lands (b .places) h refl j; numbers = q .inside h j .numbers; lives = q .inside h j .lives; spans = q .inside h j .spans }
 
   pub laid-obeys : (roomFor : ℕ → ℕ) (y : Fit (List Order)) → Decides (shelfAt b k) roomFor v y → Obeys b k y (record { orders = laidIn b r m; fit = code.Fit.Fits })
-  laid-obeys roomFor y d = rw laid-is (rw (settled-as b k v gone place o s) at (settled-obeys b k h (w .sized) roomFor v y d w))
+  laid-obeys roomFor y d = rw laid-is (rw (settled-as b k v s) at (settled-obeys b k h (w .sized) roomFor v y d w))

@@ -19,7 +19,7 @@ use Rattle.places.proofs.Mirroring.{as-many-numbers, as-many-marks, mirrored-se
 use Rattle.places.proofs.EightShelves.{shelf-reach, nothing-past, store-own, store-other, store-singles, emptied-own, emptied-other, emptied-singles}
 use Rattle.orders.specs.State.{ordersEach, noOrder, orderNumber, orderLive, shelfAt, liveAt, Sized, Wf}
 use Rattle.orders.specs.Rules.{applyTo}
-use Rattle.orders.specs.Deciding.{liveOrders, allBut, Decides, stays, lands, misfits, crowds, withOrder, settledAt, emptiedTo}
+use Rattle.orders.specs.Deciding.{liveOrders, allBut, Decides, stays, lands, misfits, crowds, withOrder, landedIn, settledBy, settledAt, emptiedTo}
 use Rattle.orders.specs.Promises.{fitNumber, Obeys, Changes, Clears}
 use Rattle.orders.specs.declared.Order.{Order}
 use Rattle.orders.specs.declared.Orders.{Orders}
@@ -102,23 +102,24 @@ module _ (b : Orders) (k : ℕ) (h : k < symbols) (s : Sized b) where
   settled-obeys roomFor v x misfits w = record { wf = w; fit = refl; own = refl; others = λ m ne. refl }
   settled-obeys roomFor v x crowds w = record { wf = w; fit = refl; own = refl; others = λ m ne. refl }
 
--- where no place is emptied first
-pub settled-once : (b : Orders) (k : ℕ) (v : Verdict) (gone place : ℕ) (o : Order) → v ≡ Verdict.Fits gone place o → ordersEach ≤ gone
-    → record { orders = withOrder b k place o; fit = code.Fit.Fits } ≡ settledAt b k v
-settled-once b k v gone place o e h = rw (e, le-ltb gone ordersEach h)
+-- where no place is emptied first, and where none is filled either
+pub landed-once : (b : Orders) (k gone place : ℕ) (o : Order) → ordersEach ≤ gone → withOrder b k place o ≡ landedIn b k gone place o
+landed-once b k gone place o h = rw (le-ltb gone ordersEach h)
 
-settled-kept : (b : Orders) (k : ℕ) (v : Verdict) → fitNumber (settledAt b k v .fit) ≢ 0 → settledAt b k v .orders ≡ b
-settled-kept b k (Verdict.Fits gone i o) ne = absurd (ne refl)
-settled-kept b k Verdict.Stays ne = absurd (ne refl)
-settled-kept b k Verdict.Misfit ne = refl
-settled-kept b k Verdict.NoRoom ne = refl
+pub landed-nowhere : (b : Orders) (k gone place : ℕ) (o : Order) → ordersEach ≤ gone → ordersEach ≤ place → b ≡ landedIn b k gone place o
+landed-nowhere b k gone place o h j = rw (le-ltb gone ordersEach h, le-ltb place ordersEach j)
+
+settled-kept : (b : Orders) (k gone place : ℕ) (o : Order) (f : code.Fit) → fitNumber (settledBy b k gone place o f .fit) ≢ 0 → settledBy b k gone place o f .orders ≡ b
+settled-kept b k gone place o code.Fit.Fits ne = absurd (ne refl)
+settled-kept b k gone place o code.Fit.Misfit ne = refl
+settled-kept b k gone place o code.Fit.NoRoom ne = refl
 
 -- ---- so a change that is judged and settled keeps its promise
 module _ (b : Orders) (k : ℕ) (c : Change) where
   pub changes : (roomFor : ℕ → ℕ) (v : Verdict) → k < symbols → (Wf b → Decides (shelfAt b k) roomFor v (applyTo (liveOrders (shelfAt b k)) c)) → Changes b k c (settledAt b k v)
   unfolding liveAt
   changes roomFor v h p = record {
-    kept = settled-kept b k v;
+    kept = settled-kept b k (v .gone) (v .place) (v .order) (v .fit);
     outside = λ o. absurd (omega (arith, h, o));
     obeys = λ j w. settled-obeys b k h (w .sized) roomFor v (applyTo (liveAt b k) c) (p w) w;
   }

@@ -14,6 +14,8 @@ use Rattle.orders.specs.declared.Fit as code
 use Rattle.orders.specs.declared.Order.{Order}
 use Rattle.orders.specs.declared.Orders.{Orders}
 use Rattle.orders.specs.declared.Change.{Change}
+use Rattle.orders.specs.declared.Edit.{Edit}
+use Rattle.orders.specs.declared.Kind.{Kind}
 use Rattle.orders.specs.declared.Changed.{Changed}
 use Rattle.orders.specs.declared.landing.Landing.{Landing}
 use Rattle.orders.specs.declared.rules.Verdict.{Verdict}
@@ -36,6 +38,18 @@ OrderAt n l i = FoundAt orderNumber orderLive noOrder ordersEach n l i
 
 abbrev pub OrderRoom : List Order → ℕ → Type 0
 OrderRoom l i = FreeAt orderLive noOrder ordersEach l i
+
+-- ---- the change that a flat one is
+abbrev pub changeBy : Kind → ℕ → ℕ → Bool → ℕ → ℕ → Change
+changeBy Kind.Nothing n fresh buy p v = Change.Nothing
+changeBy Kind.Add n fresh buy p v = Change.Add n buy p v
+changeBy Kind.Modify n fresh buy p v = Change.Modify n buy p v
+changeBy Kind.Delete n fresh buy p v = Change.Delete n
+changeBy Kind.Execute n fresh buy p v = Change.Execute n v
+changeBy Kind.Replace n fresh buy p v = Change.Replace n fresh buy p v
+
+abbrev pub changeAs : Edit → Change
+changeAs e = changeBy (e .kind) (e .order) (e .fresh) (e .buy) (e .price) (e .volume)
 
 -- what is found for a change: its own order, or the old one of a replace
 abbrev pub Found : Change → List Order → ℕ → Type 0
@@ -65,12 +79,18 @@ abbrev pub TakesRoom : (ℕ → ℕ) → List Order → ℕ → Order → Type 0
 TakesRoom roomFor l place o = o .live ≡ true → look orderNumber (o .number) (liveOrders l) ≡ none → roomFor (o .number) < ordersEach → place ≡ roomFor (o .number)
 
 -- ---- a verdict is what the rule says of the live orders: one place is emptied, then the order goes to its own, which is the one with room for it where it is new
+abbrev pub keeping : code.Fit → Verdict
+keeping f = record { fit = f; gone = ordersEach; place = ordersEach; order = noOrder }
+
+abbrev pub landing : ℕ → ℕ → Order → Verdict
+landing gone place o = record { fit = code.Fit.Fits; gone = gone; place = place; order = o }
+
 pub data Decides (l : List Order) (roomFor : ℕ → ℕ) : Verdict → Fit (List Order) → Type 0 where
-  stays : Decides l roomFor Verdict.Stays (fits (liveOrders l))
+  stays : Decides l roomFor (keeping code.Fit.Fits) (fits (liveOrders l))
   lands : {gone place : ℕ} {o : Order} {os : List Order} → Lands orderNumber orderLive ordersEach l gone noOrder (allBut l gone)
-      → Lands orderNumber orderLive ordersEach (placed ordersEach l gone noOrder) place o os → TakesRoom roomFor l place o → Decides l roomFor (Verdict.Fits gone place o) (fits os)
-  misfits : Decides l roomFor Verdict.Misfit misfit
-  crowds : Decides l roomFor Verdict.NoRoom no-room
+      → Lands orderNumber orderLive ordersEach (placed ordersEach l gone noOrder) place o os → TakesRoom roomFor l place o → Decides l roomFor (landing gone place o) (fits os)
+  misfits : Decides l roomFor (keeping code.Fit.Misfit) misfit
+  crowds : Decides l roomFor (keeping code.Fit.NoRoom) no-room
 
 -- ---- the stores
 -- what searches read, without the orders; and that with a number and a mark at place i of symbol k, and the spans that follow
@@ -112,11 +132,17 @@ pub record LandsAs (k gone place : ℕ) (o : Order) (i : ℕ) (x : Order) (r : L
 abbrev pub laidIn : Orders → Landing → Beside → Orders
 laidIn b r m = record { places = set (set (b .places) (r .emptied) noOrder) (r .filled) (r .order); numbers = m .numbers; lives = m .lives; spans = m .spans }
 
+-- a verdict stored: one place emptied, then one filled, where it fits
+abbrev pub landedIn : Orders → ℕ → ℕ → ℕ → Order → Orders
+landedIn b k gone place o = withOrder (withOrder b k gone noOrder) k place o
+
+abbrev pub settledBy : Orders → ℕ → ℕ → ℕ → Order → code.Fit → Changed
+settledBy b k gone place o code.Fit.Fits = record { orders = landedIn b k gone place o; fit = code.Fit.Fits }
+settledBy b k gone place o code.Fit.Misfit = record { orders = b; fit = code.Fit.Misfit }
+settledBy b k gone place o code.Fit.NoRoom = record { orders = b; fit = code.Fit.NoRoom }
+
 abbrev pub settledAt : Orders → ℕ → Verdict → Changed
-settledAt b k (Verdict.Fits gone place o) = record { orders = withOrder (withOrder b k gone noOrder) k place o; fit = code.Fit.Fits }
-settledAt b k Verdict.Stays = record { orders = b; fit = code.Fit.Fits }
-settledAt b k Verdict.Misfit = record { orders = b; fit = code.Fit.Misfit }
-settledAt b k Verdict.NoRoom = record { orders = b; fit = code.Fit.NoRoom }
+settledAt b k v = settledBy b k (v .gone) (v .place) (v .order) (v .fit)
 
 -- the first j places of a symbol emptied
 abbrev pub emptiedTo : Orders → ℕ → ℕ → Orders
@@ -126,8 +152,3 @@ emptiedTo b k j = record {
   lives = emptied ordersEach k false (b .lives) j;
   spans = emptied ordersEach k 0 (b .spans) j;
 }
-
--- the places that a verdict changes, none where it is ordersEach; of one that doesn't fit there is nothing to store
-pub data Settled : Verdict → ℕ → ℕ → Order → Type 0 where
-  fits-as : {gone place : ℕ} {o : Order} → Settled (Verdict.Fits gone place o) gone place o
-  stays-as : {o : Order} → Settled Verdict.Stays ordersEach ordersEach o

@@ -2,17 +2,21 @@
 use crate::Change;
 use crate::Changed;
 use crate::EACH;
+use crate::Edit;
 use crate::Fit;
+use crate::Kind;
 use crate::ORDERS;
 use crate::Order;
 use crate::Orders;
 use crate::PLACES;
+use crate::edit_of;
 use crate::rules::Verdict;
 use crate::rules::judge_add;
 use crate::rules::judge_delete;
 use crate::rules::judge_execute;
 use crate::rules::judge_modify;
 use crate::rules::judge_replace;
+use crate::rules::keeps;
 use crate::search::find;
 use crate::search::room;
 use places::SYMBOLS;
@@ -23,7 +27,7 @@ ghost use Rattle.places.specs.Places.{symbols, shelf};
 ghost use Rattle.places.specs.Homes.{freeIn};
 ghost use Rattle.orders.specs.State.{ordersEach};
 ghost use Rattle.orders.specs.Rules.{applyTo};
-ghost use Rattle.orders.specs.Deciding.{liveOrders, Found, Lies, Searchable, Decides};
+ghost use Rattle.orders.specs.Deciding.{liveOrders, changeAs, Found, Lies, Searchable, Decides};
 ghost use Rattle.orders.specs.Promises.{Changes, Clears};
 
 impl Orders {
@@ -37,10 +41,11 @@ impl Orders {
                 fit: Fit::Misfit,
             };
         }
-        let i = looked(&self.numbers, &self.lives, &self.spans, k, c);
+        let e = edit_of(c);
+        let i = looked(&self.numbers, &self.lives, &self.spans, k, e);
         let at = spot(k, EACH, i);
         let x = self.places[at];
-        let v = judged(&self.numbers, &self.lives, &self.spans, k, i, x, c);
+        let v = judged(&self.numbers, &self.lives, &self.spans, k, i, x, e);
         self.settle(k, v)
     }
 
@@ -61,20 +66,17 @@ pub fn looked<'a>(
     lives: &'a [bool; PLACES],
     spans: &'a [u16; PLACES],
     k: usize,
-    c: Change,
+    e: Edit,
 ) -> usize
-    ensures { λ r. ⌜ ((l : List Order) → k < symbols → Searchable l (now (numbers .entry)) (now (lives .entry)) (now (spans .entry)) k → Found c (shelf ordersEach k l) r) ⌝ }
+    ensures { λ r. ⌜ ((l : List Order) → k < symbols → Searchable l (now (numbers .entry)) (now (lives .entry)) (now (spans .entry)) k → Found (changeAs e) (shelf ordersEach k l) r) ⌝ }
 {
     if SYMBOLS <= k {
         return ORDERS;
     }
-    match c {
-        Change::Nothing => ORDERS,
-        Change::Add(order, _, _, _) => find(numbers, lives, spans, k, order),
-        Change::Modify(order, _, _, _) => find(numbers, lives, spans, k, order),
-        Change::Delete(order) => find(numbers, lives, spans, k, order),
-        Change::Execute(order, _) => find(numbers, lives, spans, k, order),
-        Change::Replace(old, _, _, _, _) => find(numbers, lives, spans, k, old),
+    let kind = e.kind;
+    match kind {
+        Kind::Nothing => ORDERS,
+        _ => find(numbers, lives, spans, k, e.order),
     }
 }
 
@@ -86,28 +88,27 @@ pub fn judged<'a>(
     k: usize,
     i: usize,
     x: Order,
-    c: Change,
+    e: Edit,
 ) -> Verdict
-    ensures { λ r. ⌜ ((l : List Order) → k < symbols → Searchable l (now (numbers .entry)) (now (lives .entry)) (now (spans .entry)) k → Found c (shelf ordersEach k l) i → Lies x (shelf ordersEach k l) i → Decides (shelf ordersEach k l) (freeIn (now (lives .entry)) (k * ordersEach) ordersEach) r (applyTo (liveOrders (shelf ordersEach k l)) c)) ⌝ }
+    ensures { λ r. ⌜ ((l : List Order) → k < symbols → Searchable l (now (numbers .entry)) (now (lives .entry)) (now (spans .entry)) k → Found (changeAs e) (shelf ordersEach k l) i → Lies x (shelf ordersEach k l) i → Decides (shelf ordersEach k l) (freeIn (now (lives .entry)) (k * ordersEach) ordersEach) r (applyTo (liveOrders (shelf ordersEach k l)) (changeAs e))) ⌝ }
 {
     if SYMBOLS <= k {
-        return Verdict::Misfit;
+        return keeps(Fit::Misfit);
     }
-    match c {
-        Change::Nothing => Verdict::Stays,
-        Change::Add(order, buy, price, volume) => {
-            let j = room(lives, k, order);
-            judge_add(i, j, order, buy, price, volume)
+    let kind = e.kind;
+    match kind {
+        Kind::Nothing => keeps(Fit::Fits),
+        Kind::Add => {
+            let j = room(lives, k, e.order);
+            judge_add(i, j, e.order, e.buy, e.price, e.volume)
         }
-        Change::Modify(order, buy, price, volume) => {
-            judge_modify(i, x, order, buy, price, volume)
-        }
-        Change::Delete(order) => judge_delete(i, order),
-        Change::Execute(order, volume) => judge_execute(i, x, order, volume),
-        Change::Replace(old, order, buy, price, volume) => {
-            let j = find(numbers, lives, spans, k, order);
-            let free = room(lives, k, order);
-            judge_replace(i, x, j, free, old, order, buy, price, volume)
+        Kind::Modify => judge_modify(i, x, e.order, e.buy, e.price, e.volume),
+        Kind::Delete => judge_delete(i, e.order),
+        Kind::Execute => judge_execute(i, x, e.order, e.volume),
+        Kind::Replace => {
+            let j = find(numbers, lives, spans, k, e.fresh);
+            let free = room(lives, k, e.fresh);
+            judge_replace(i, x, j, free, e.order, e.fresh, e.buy, e.price, e.volume)
         }
     }
 }

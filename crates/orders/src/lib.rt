@@ -18,6 +18,7 @@ pub use rules::Verdict;
 pub use store::mirror;
 ghost use mathlib.Core.Path.{_≡_};
 ghost use Rattle.orders.specs.State.{noOrder, noOrders};
+ghost use Rattle.orders.specs.Deciding.{changeAs};
 ghost use Rattle.orders.specs.Promises.{fitNumber};
 
 // Each symbol's own places.
@@ -60,6 +61,25 @@ pub enum Change {
     Replace(u64, u64, bool, u32, u32),
 }
 
+// The same, flat, as calls pass it on: the order that it is about, the old one of a replace, and the new number of a replace. What a kind lacks is 0.
+pub struct Edit {
+    pub kind: Kind,
+    pub order: u64,
+    pub fresh: u64,
+    pub buy: bool,
+    pub price: u32,
+    pub volume: u32,
+}
+
+pub enum Kind {
+    Nothing,
+    Add,
+    Modify,
+    Delete,
+    Execute,
+    Replace,
+}
+
 // Whether it fits the orders, and whether there is room.
 pub enum Fit {
     Fits,
@@ -89,6 +109,62 @@ impl Orders {
             lives,
             spans,
         }
+    }
+}
+
+// A change, flat.
+pub fn edit_of(c: Change) -> Edit
+    ensures { λ r. ⌜ changeAs r ≡ c ⌝ }
+{
+    match c {
+        Change::Nothing => Edit {
+            kind: Kind::Nothing,
+            order: 0,
+            fresh: 0,
+            buy: false,
+            price: 0,
+            volume: 0,
+        },
+        Change::Add(order, buy, price, volume) => Edit {
+            kind: Kind::Add,
+            order,
+            fresh: 0,
+            buy,
+            price,
+            volume,
+        },
+        Change::Modify(order, buy, price, volume) => Edit {
+            kind: Kind::Modify,
+            order,
+            fresh: 0,
+            buy,
+            price,
+            volume,
+        },
+        Change::Delete(order) => Edit {
+            kind: Kind::Delete,
+            order,
+            fresh: 0,
+            buy: false,
+            price: 0,
+            volume: 0,
+        },
+        Change::Execute(order, volume) => Edit {
+            kind: Kind::Execute,
+            order,
+            fresh: 0,
+            buy: false,
+            price: 0,
+            volume,
+        },
+        Change::Replace(order, fresh, buy, price, volume) => Edit {
+            kind: Kind::Replace,
+            order,
+            fresh,
+            buy,
+            price,
+            volume,
+        },
     }
 }
 

@@ -1,5 +1,6 @@
 // What a change does to a symbol's orders, decided on small values: the place that was found, the order there, the change.
 use crate::Change;
+use crate::Fit;
 use crate::ORDERS;
 use crate::Order;
 use crate::no_order;
@@ -9,19 +10,15 @@ ghost use mathlib.Core.List.{List};
 ghost use Prim.Native.Nat.{ℕ, _<_};
 ghost use lib.ListN.{getD};
 ghost use Rattle.orders.specs.State.{ordersEach, noOrder};
-ghost use Rattle.orders.specs.Deciding.{OrderShelf, OrderAt, OrderRoom, Decides, liveOrders};
+ghost use Rattle.orders.specs.Deciding.{OrderShelf, OrderAt, OrderRoom, Decides, liveOrders, keeping, landing};
 ghost use Rattle.orders.specs.Rules.{applyTo};
 
-// It fits and changes no place; it fits, the place `gone` is emptied (ORDERS: none is), then the order goes to its place; it doesn't fit; there is no room.
-pub enum Verdict {
-    Stays,
-    Fits {
-        gone: usize,
-        place: usize,
-        order: Order,
-    },
-    Misfit,
-    NoRoom,
+// Whether it fits. If it does, the place `gone` is emptied and then the order goes to its place: ORDERS for none. What doesn't fit changes no place, and has an empty order.
+pub struct Verdict {
+    pub fit: Fit,
+    pub gone: usize,
+    pub place: usize,
+    pub order: Order,
 }
 
 // An order that is live already doesn't fit; i is where it lies, and j has room.
@@ -36,10 +33,10 @@ pub(crate) fn judge_add(
     ensures { λ r. ⌜ ((l : List Order) (roomFor : ℕ → ℕ) → OrderShelf l → OrderAt order l i → OrderRoom l j → j ≡ roomFor order → Decides l roomFor r (applyTo (liveOrders l) (Change.Add order buy price volume))) ⌝ }
 {
     if i < ORDERS {
-        return Verdict::Misfit;
+        return keeps(Fit::Misfit);
     }
     if ORDERS <= j {
-        return Verdict::NoRoom;
+        return keeps(Fit::NoRoom);
     }
     let o = Order {
         live: true,
@@ -48,11 +45,7 @@ pub(crate) fn judge_add(
         price,
         volume,
     };
-    Verdict::Fits {
-        gone: ORDERS,
-        place: j,
-        order: o,
-    }
+    lands(ORDERS, j, o)
 }
 
 pub(crate) fn judge_modify(
@@ -66,7 +59,7 @@ pub(crate) fn judge_modify(
     ensures { λ r. ⌜ ((l : List Order) (roomFor : ℕ → ℕ) → OrderShelf l → OrderAt order l i → (i < ordersEach → x ≡ getD l i noOrder) → Decides l roomFor r (applyTo (liveOrders l) (Change.Modify order buy price volume))) ⌝ }
 {
     if ORDERS <= i {
-        return Verdict::Misfit;
+        return keeps(Fit::Misfit);
     }
     if x.buy == buy {
         let o = Order {
@@ -76,27 +69,19 @@ pub(crate) fn judge_modify(
             price,
             volume,
         };
-        return Verdict::Fits {
-            gone: ORDERS,
-            place: i,
-            order: o,
-        };
+        return lands(ORDERS, i, o);
     }
-    Verdict::Misfit
+    keeps(Fit::Misfit)
 }
 
 pub(crate) fn judge_delete(i: usize, order: u64) -> Verdict
     ensures { λ r. ⌜ ((l : List Order) (roomFor : ℕ → ℕ) → OrderShelf l → OrderAt order l i → Decides l roomFor r (applyTo (liveOrders l) (Change.Delete order))) ⌝ }
 {
     if ORDERS <= i {
-        return Verdict::Misfit;
+        return keeps(Fit::Misfit);
     }
     let o = no_order();
-    Verdict::Fits {
-        gone: ORDERS,
-        place: i,
-        order: o,
-    }
+    lands(ORDERS, i, o)
 }
 
 // What is left stands at the order's own price; where nothing is left, the order is gone.
@@ -104,18 +89,14 @@ pub(crate) fn judge_execute(i: usize, x: Order, order: u64, volume: u32) -> Verd
     ensures { λ r. ⌜ ((l : List Order) (roomFor : ℕ → ℕ) → OrderShelf l → OrderAt order l i → (i < ordersEach → x ≡ getD l i noOrder) → Decides l roomFor r (applyTo (liveOrders l) (Change.Execute order volume))) ⌝ }
 {
     if ORDERS <= i {
-        return Verdict::Misfit;
+        return keeps(Fit::Misfit);
     }
     if x.volume < volume {
-        return Verdict::Misfit;
+        return keeps(Fit::Misfit);
     }
     if x.volume == volume {
         let none = no_order();
-        return Verdict::Fits {
-            gone: ORDERS,
-            place: i,
-            order: none,
-        };
+        return lands(ORDERS, i, none);
     }
     let o = Order {
         live: x.live,
@@ -124,11 +105,7 @@ pub(crate) fn judge_execute(i: usize, x: Order, order: u64, volume: u32) -> Verd
         price: x.price,
         volume: x.volume - volume,
     };
-    Verdict::Fits {
-        gone: ORDERS,
-        place: i,
-        order: o,
-    }
+    lands(ORDERS, i, o)
 }
 
 // The old order lies at i and goes first, so the new number may lie there too. The new order goes where there is room for its number, at `free`; where every place is live,
@@ -147,7 +124,7 @@ pub(crate) fn judge_replace(
     ensures { λ r. ⌜ ((l : List Order) (roomFor : ℕ → ℕ) → OrderShelf l → OrderAt old l i → OrderAt order l j → OrderRoom l free → free ≡ roomFor order → (i < ordersEach → x ≡ getD l i noOrder) → Decides l roomFor r (applyTo (liveOrders l) (Change.Replace old order buy price volume))) ⌝ }
 {
     if ORDERS <= i {
-        return Verdict::Misfit;
+        return keeps(Fit::Misfit);
     }
     if x.buy == buy {
         let o = Order {
@@ -159,26 +136,38 @@ pub(crate) fn judge_replace(
         };
         if ORDERS <= j {
             if ORDERS <= free {
-                return Verdict::Fits {
-                    gone: ORDERS,
-                    place: i,
-                    order: o,
-                };
+                return lands(ORDERS, i, o);
             }
-            return Verdict::Fits {
-                gone: i,
-                place: free,
-                order: o,
-            };
+            return lands(i, free, o);
         }
         if i == j {
-            return Verdict::Fits {
-                gone: ORDERS,
-                place: i,
-                order: o,
-            };
+            return lands(ORDERS, i, o);
         }
-        return Verdict::Misfit;
+        return keeps(Fit::Misfit);
     }
-    Verdict::Misfit
+    keeps(Fit::Misfit)
+}
+
+// A verdict that changes no place.
+pub(crate) fn keeps(fit: Fit) -> Verdict
+    ensures { λ r. ⌜ r ≡ keeping fit ⌝ }
+{
+    let order = no_order();
+    Verdict {
+        fit,
+        gone: ORDERS,
+        place: ORDERS,
+        order,
+    }
+}
+
+fn lands(gone: usize, place: usize, order: Order) -> Verdict
+    ensures { λ r. ⌜ r ≡ landing gone place order ⌝ }
+{
+    Verdict {
+        fit: Fit::Fits,
+        gone,
+        place,
+        order,
+    }
 }

@@ -18,43 +18,47 @@ ghost use lib.Dec.{eqb};
 ghost use Rattle.places.specs.Places.{symbols};
 ghost use Rattle.places.specs.Homes.{leaves};
 ghost use Rattle.orders.specs.State.{ordersEach};
-ghost use Rattle.orders.specs.Deciding.{withOrder, settledAt, emptiedTo, beside, besideWith, Mirrors};
+ghost use Rattle.orders.specs.Deciding.{withOrder, landedIn, settledAt, emptiedTo, beside, besideWith, Mirrors};
 
 impl Orders {
     pub(crate) fn settle(self, k: usize, v: Verdict) -> Changed
         requires { ⌜ k < symbols ⌝ }
         ensures { λ r. ⌜ r ≡ settledAt self k v ⌝ }
     {
-        match v {
-            Verdict::Stays => Changed {
-                orders: self,
-                fit: Fit::Fits,
-            },
-            Verdict::Misfit => Changed {
+        let fit = v.fit;
+        match fit {
+            Fit::Misfit => Changed {
                 orders: self,
                 fit: Fit::Misfit,
             },
-            Verdict::NoRoom => Changed {
+            Fit::NoRoom => Changed {
                 orders: self,
                 fit: Fit::NoRoom,
             },
-            Verdict::Fits { gone, place, order } => {
-                if ORDERS <= gone {
-                    let next = self.put_order(k, place, order);
-                    return Changed {
-                        orders: next,
-                        fit: Fit::Fits,
-                    };
-                }
-                let none = no_order();
-                let rest = self.put_order(k, gone, none);
-                let next = rest.put_order(k, place, order);
+            Fit::Fits => {
+                let orders = self.landed(k, v.gone, v.place, v.order);
                 Changed {
-                    orders: next,
+                    orders,
                     fit: Fit::Fits,
                 }
             }
         }
+    }
+
+    // One place is emptied, then one filled: ORDERS for none.
+    fn landed(self, k: usize, gone: usize, place: usize, order: Order) -> Orders
+        requires { ⌜ k < symbols ⌝ }
+        ensures { λ r. ⌜ r ≡ landedIn self k gone place order ⌝ }
+    {
+        if ORDERS <= gone {
+            if ORDERS <= place {
+                return self;
+            }
+            return self.put_order(k, place, order);
+        }
+        let none = no_order();
+        let rest = self.put_order(k, gone, none);
+        rest.put_order(k, place, order)
     }
 
     // An order goes to a place of its symbol, whatever lay there.

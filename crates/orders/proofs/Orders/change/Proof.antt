@@ -11,6 +11,9 @@ use Rattle.orders.proofs.Orders.change.Tie as tie
 returns : tie.Need-returns
 returns c = changes-nothing _ _ _ (c .if1 .taken)
 
+edit-of-requires : tie.Need-edit-of-requires
+edit-of-requires c κs = search needs
+
 looked-requires : tie.Need-looked-requires
 looked-requires c κs = search needs
 
@@ -18,10 +21,10 @@ spot-requires : tie.Need-spot-requires
 spot-requires c κs = search needs
 
 mul-x : tie.Need-mul-x
-mul-x c = let s = c .before .before .before .before .before .before .before in omega (arith, c .spot .ensures, spot-within ordersEach (s .args .k) (c .before .looked .result) (omega arith))
+mul-x c = let s = c .before .before .before .before .before .before .before .before in omega (arith, c .spot .ensures, spot-within ordersEach (s .args .k) (c .before .looked .result) (omega arith))
 
 element-copy-out-x : tie.Need-element-copy-out-x
-element-copy-out-x c = let s = c .before .before .before .before .before .before .before in omega (arith, c .spot .ensures, spot-within ordersEach (s .args .k) (c .before .looked .result) (omega arith))
+element-copy-out-x c = let s = c .before .before .before .before .before .before .before .before in omega (arith, c .spot .ensures, spot-within ordersEach (s .args .k) (c .before .looked .result) (omega arith))
 
 judged-requires : tie.Need-judged-requires
 judged-requires c κs = search needs
@@ -30,20 +33,14 @@ settle-requires : tie.Need-settle-requires
 settle-requires c κs = search needs
 
 returns-2 : tie.Need-returns-2
-returns-2 c =
-    let f = c .before .before .before .before .before .before .before .before in
-    let h = f .before .before .before .before .before .if1 .left in
-    let s = f .before .before .before .before .before .before in
-    let b = s .args .t1 in
-    rw (c .settle .ensures)
-    (changes b _ _ _ _ h (λ w.
-    c .before .judged .ensures _ h (searchable b _ h w) (f .looked .ensures _ h (searchable b _ h w)) (rw (c .before .before .before .before .before .before .before .spot .ensures) (looked-at (b .places) _ _ h))))
+returns-2 c = let f = c .before .before .before .before .before .before .before .before in let h = f .before .before .before .before .before .before .if1 .left in let s = f .before .before .before .before .before .before .before in let b = s .args .t1 in rw (c .settle .ensures) (changes b _ _ _ _ h (λ w. (rw (f .before .before .before .before .before .edit-of .ensures) at (c .before .judged .ensures _ h (searchable b _ h w) (f .looked .ensures _ h (searchable b _ h w)) (rw (c .before .before .before .before .before .before .before .spot .ensures) (looked-at (b .places) _ _ h))))))
 
 pub change-spec : {M : Type 1} → statement M
 change-spec =
     tie.close
     (tie.spec
     returns
+    edit-of-requires
     looked-requires
     spot-requires
     mul-x
