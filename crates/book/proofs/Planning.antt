@@ -9,6 +9,7 @@ use native.Mathlib.Omega.{arith}
 use borrow.Author.Tests.{lt-ltb}
 use lib.Dec.{ltb}
 use lib.ListN.{getD}
+use Rattle.feed.specs.Reader.{Act, clearing, numbered}
 use Rattle.wire.specs.Reading.{Read}
 use Rattle.places.specs.Places.{symbols, among, shelf, spotIn}
 use Rattle.places.specs.Homes.{freeIn}
@@ -20,7 +21,7 @@ use Rattle.symbols.proofs.Entries.{entry-at, seat-is}
 use Rattle.symbols.proofs.Altering.{stands}
 use Rattle.orders.specs.State.{ordersEach, noOrder, liveAt, shelfAt}
 use Rattle.orders.specs.Rules.{applyTo}
-use Rattle.orders.specs.Deciding.{Beside, beside, besides, liveOrders, Found, Lies, Searchable, Decides, Mirrors, LandsAs, Settled}
+use Rattle.orders.specs.Deciding.{Beside, beside, besides, liveOrders, Found, Lies, Searchable, Decides, Mirrors, LandsAs}
 use Rattle.orders.specs.declared.Order.{Order}
 use Rattle.orders.specs.declared.Change.{Change}
 use Rattle.orders.specs.declared.Fit as code
@@ -35,23 +36,36 @@ use Rattle.record.specs.declared.Trade.{Trade}
 use Rattle.record.specs.declared.rules.Recording.{Recording}
 use Rattle.record.proofs.Storing as record-search
 use Rattle.record.proofs.Storing.{dealt, stored-in}
-use Rattle.book.specs.State.{Next, view, Wf}
-use Rattle.book.specs.Step.{refusing, stepOf}
+use Rattle.book.specs.State.{View, Next, view, Wf}
+use Rattle.book.specs.Step.{refusing, actOn, stepOf}
 use Rattle.book.specs.Promises.{Steps}
-use Rattle.book.specs.Planning.{Hears, seatOf, Sits, changeIn, dealIn, InTurn, TurnIn, Looked, Judged, Lays, storedIn}
+use Rattle.book.specs.Planning.{Means, HearsNumbered, Hears, seatBy, seatOf, SitsBy, Sits, changeIn, dealIn, InTurn, TurnIn, Looked, Judged, Lays, storedIn}
 use Rattle.book.specs.declared.Book.{Book}
 use Rattle.book.specs.declared.acts.Effect.{Effect}
 use Rattle.book.specs.declared.hearing.Heard.{Heard}
+use Rattle.book.specs.declared.hearing.Tone.{Tone}
 use Rattle.book.specs.declared.hearing.Turn.{Turn}
 use Rattle.book.proofs.Acting.{Asked, meeting-away, meeting-turn, awaits, act-nobody}
 use Rattle.book.proofs.Stores.{enacts-done}
 use Rattle.book.proofs.Views.{same-market}
 
+-- ---- what is heard of a message that was read
+module _ (x : Read) (h : Heard) where
+  pub hears-refused : (a : ℕ) → h .tone ≡ Tone.Refused → h .answer ≡ a → ((v : View) → stepOf v x ≡ refusing v a) → Hears x h
+  hears-refused a t e p = rw t (λ v. p v ∙ ap (refusing v) (sym e))
+
+  pub hears-act : (a : Act Effect) → Means a h → ((v : View) → stepOf v x ≡ actOn v a) → Hears x h
+  hears-act (clearing i next) m p = rw m tt
+  hears-act (numbered i n e) m p = rw (m .tone) (record { effect = e; acts = λ v. p v ∙ ap (λ (j : ℕ). actOn v (numbered j n e)) (sym (m .index)) ∙ ap (λ (j : ℕ). actOn v (numbered (h .index) j e)) (sym (m .number)); change = m .change; deal = m .deal })
+
 -- ---- the place of a message's symbol
 pub sits : (b : Book) → Wf b → (h : Heard) (k : ℕ) → k ≡ seatOf (b .symbols .tickets) h → Sits b h k
-sits b w (Heard.Refused a) k e = tt
-sits b w (Heard.Numbered index n x) k e = e ∙ seat-is (b .symbols) (w .names) index
-sits b w Heard.Clear k e = tt
+sits b w h k = go (h .tone)
+  where
+    go : (t : Tone) → k ≡ seatBy (b .symbols .tickets) (h .index) t → SitsBy b (h .index) k t
+    go Tone.Refused e = tt
+    go Tone.Numbered e = e ∙ seat-is (b .symbols) (w .names) (h .index)
+    go Tone.Clear e = tt
 
 -- its one place, as the spot of a shelf of one
 pub own-seat : (k : ℕ) → k < symbols → spotIn 1 k 0 ≡ k
@@ -59,22 +73,28 @@ unfolding spotIn
 own-seat k h = rw (lt-ltb k symbols h) (omega arith)
 
 -- ---- a numbered message, by its place and its turn there
-module _ (b : Book) (x : Read) (index n : ℕ) (e : Effect) (hears : Hears x (Heard.Numbered index n e)) (k : ℕ) (place : k ≡ placeOf itself index (entries (b .symbols))) where
+module _ (b : Book) (x : Read) (h : Heard) (hears : HearsNumbered x h) (n : ℕ) (its : h .number ≡ n) (k : ℕ) (place : k ≡ placeOf itself (h .index) (entries (b .symbols))) where
   abbrev Stands : Turn → Type 0
-  Stands t = TurnIn b x (Heard.Numbered index n e) k t
+  Stands t = TurnIn b x h k t
+
+  abbrev e : Effect
+  e = hears .effect
+
+  acts : stepOf (view b) x ≡ actOn (view b) (numbered (h .index) n e)
+  acts = hears .acts (view b) ∙ ap (λ (j : ℕ). actOn (view b) (numbered (h .index) j e)) its
 
   pub turn-nobody : symbols ≤ k → Stands (Turn.Refused 5)
-  turn-nobody h = hears (view b) ∙ act-nobody b index n e k place h
+  turn-nobody g = acts ∙ act-nobody b (h .index) n e k place g
 
-  module _ (h : k < symbols) (p : Place) (lies : p ≡ placeAt (b .symbols) k) (t : ℕ) (turn : t ≡ turnAt (entrySeen p) n) where
-    asked : Asked b index n k t
-    asked = record { place = place; turn = turn ∙ ap (λ (q : Place). turnAt (entrySeen q) n) lies ∙ ap (λ (y : Option Entry). turnAt y n) (sym (entry-at (b .symbols) k h)) }
+  module _ (g : k < symbols) (p : Place) (lies : p ≡ placeAt (b .symbols) k) (t : ℕ) (turn : t ≡ turnAt (entrySeen p) n) where
+    asked : Asked b (h .index) n k t
+    asked = record { place = place; turn = turn ∙ ap (λ (q : Place). turnAt (entrySeen q) n) lies ∙ ap (λ (y : Option Entry). turnAt y n) (sym (entry-at (b .symbols) k g)) }
 
     pub turn-away : t ≢ 7 → t ≢ 0 → Stands (Turn.Refused t)
-    turn-away p q = hears (view b) ∙ meeting-away b index n e k t asked p q
+    turn-away p q = acts ∙ meeting-away b (h .index) n e k t asked p q
 
     pub turn-due : t ≡ 0 → n < numbers → Stands Turn.Due
-    turn-due z fits = record { awaits = awaits b index n e k t asked z fits; enacts = λ d s. rw (hears (view b)) (meeting-turn b index n e k t asked z d s) }
+    turn-due z fits = record { awaits = awaits b (h .index) n e k t asked z fits; enacts = λ d s. rw acts (meeting-turn b (h .index) n e k t asked z d (rw (hears .change, hears .deal) at s)) }
 
 -- ---- what was found, judged
 module _ (b : Book) (w : Wf b) (k : ℕ) (ns : List ℕ) (ls : List Bool) (ss : List ℕ) (same : besides (b .orders) ≡ beside ns ls ss) (i : ℕ) (x : Order) (c : Change) where
@@ -87,11 +107,11 @@ module _ (b : Book) (w : Wf b) (k : ℕ) (ns : List ℕ) (ls : List Bool) (ss : 
       record { symbol = h; lies = q .lies; verdict = rw free (says (b .orders .places) h searched (q .found h) (rw (q .lies) (looked-at (b .orders .places) k i h))) }
 
 -- a verdict that settles, landed
-pub lays : (b : Book) (w : Wf b) (k i : ℕ) (x : Order) (c : Change) (v : Verdict) → Judged b k i x c v → (gone place : ℕ) (o : Order) → Settled v gone place o → (l : Landing) → LandsAs k gone place o i x l → Lays b k c l
+pub lays : (b : Book) (w : Wf b) (k i : ℕ) (x : Order) (c : Change) (v : Verdict) → Judged b k i x c v → v .fit ≡ code.Fit.Fits → (l : Landing) → LandsAs k (v .gone) (v .place) (v .order) i x l → Lays b k c l
 unfolding liveAt
-lays b w k i x c v j gone place o s l lands m q =
-    let there : LandsAs k gone place o i (getD (b .orders .places) (spotIn ordersEach k i) noOrder) l = (rw (j .lies) at lands) in
-    laid-obeys (b .orders) k (j .symbol) (w .orders) v gone place o s i l there m q _ _ (j .verdict)
+lays b w k i x c v j s l lands m q =
+    let there : LandsAs k (v .gone) (v .place) (v .order) i (getD (b .orders .places) (spotIn ordersEach k i) noOrder) l = (rw (j .lies) at lands) in
+    laid-obeys (b .orders) k (j .symbol) (w .orders) v s i l there m q _ _ (j .verdict)
 
 -- ---- a plan carried out is a step
 pub nothing-steps : (b : Book) (z : Read) (a : ℕ) → (Wf b → stepOf (view b) z ≡ refusing (view b) a) → Steps b (stepOf (view b) z) (record { book = b; answer = a })

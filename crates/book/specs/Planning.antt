@@ -5,7 +5,7 @@ use mathlib.Core.List.{List}
 use mathlib.Core.Path.{_≡_}
 use Prim.Native.Nat.{ℕ, suc, _*_, _<_}
 use lib.ListN.{getD, set}
-use Rattle.feed.specs.Reader.{numbered}
+use Rattle.feed.specs.Reader.{Act, clearing, numbered}
 use Rattle.wire.specs.Reading.{Read}
 use Rattle.places.specs.Places.{symbols, spotIn}
 use Rattle.places.specs.Homes.{freeIn}
@@ -14,7 +14,7 @@ use Rattle.symbols.specs.State.{entries, itself, placeOf}
 use Rattle.symbols.specs.declared.Place.{Place}
 use Rattle.orders.specs.State.{ordersEach, noOrder, shelfAt}
 use Rattle.orders.specs.Rules.{applyTo}
-use Rattle.orders.specs.Deciding.{Beside, besides, Mirrors, laidIn, liveOrders, Found, Decides}
+use Rattle.orders.specs.Deciding.{Beside, besides, Mirrors, laidIn, liveOrders, changeAs, Found, Decides}
 use Rattle.orders.specs.Promises.{Obeys}
 use Rattle.orders.specs.declared.Order.{Order}
 use Rattle.orders.specs.declared.Change.{Change}
@@ -28,7 +28,10 @@ use Rattle.book.specs.Step.{changeOf, dealOf, refusing, actOn, stepOf}
 use Rattle.book.specs.Promises.{Steps, Awaits, Enacts}
 use Rattle.book.specs.declared.Book.{Book}
 use Rattle.book.specs.declared.Done.{Done}
+use Rattle.book.specs.declared.acts.Effect.{Effect}
 use Rattle.book.specs.declared.hearing.Heard.{Heard}
+use Rattle.book.specs.declared.hearing.Tone.{Tone}
+use Rattle.book.specs.declared.hearing.Dealing.{Dealing}
 use Rattle.book.specs.declared.hearing.Turn.{Turn}
 use Rattle.book.specs.declared.plans.Way.{Way}
 use Rattle.book.specs.declared.plans.Plan.{Plan}
@@ -42,33 +45,61 @@ bookOf places seats orders numbers lives spans trades tickets market = record {
   market = market;
 }
 
--- ---- what reading answered, whatever the state is
-abbrev pub Hears : Read → Heard → Type 0
-Hears x (Heard.Refused a) = (v : View) → stepOf v x ≡ refusing v a
-Hears x (Heard.Numbered index n e) = (v : View) → stepOf v x ≡ actOn v (numbered index n e)
-Hears x Heard.Clear = Unit {0}
+-- ---- what a message does to the orders, and what it brings to the record
+abbrev pub dealBy : Dealing → ℕ → ℕ → ℕ → Deal
+dealBy Dealing.Nothing n p v = Deal.Nothing
+dealBy Dealing.Records n p v = Deal.Records n p v
+dealBy Dealing.Cancels n p v = Deal.Cancels n
 
--- the place of its symbol, as the tickets tell it
-abbrev pub seatOf : List ℕ → Heard → ℕ
-seatOf ts (Heard.Refused a) = symbols
-seatOf ts (Heard.Numbered index n e) = firstIn ts 0 symbols (suc index)
-seatOf ts Heard.Clear = symbols
-
-abbrev pub Sits : Book → Heard → ℕ → Type 0
-Sits b (Heard.Refused a) k = Unit {0}
-Sits b (Heard.Numbered index n e) k = k ≡ placeOf itself index (entries (b .symbols))
-Sits b Heard.Clear k = Unit {0}
-
--- what it does to the orders, and what it brings to the record
 abbrev pub changeIn : Heard → Change
-changeIn (Heard.Refused a) = Change.Nothing
-changeIn (Heard.Numbered index n e) = changeOf e
-changeIn Heard.Clear = Change.Nothing
+changeIn h = changeAs (h .edit)
 
 abbrev pub dealIn : Heard → Deal
-dealIn (Heard.Refused a) = Deal.Nothing
-dealIn (Heard.Numbered index n e) = dealOf e
-dealIn Heard.Clear = Deal.Nothing
+dealIn h = dealBy (h .dealing) (h .trade) (h .price) (h .volume)
+
+-- what was heard of a message is what it means, its effect taken apart
+pub record Tells (i n : ℕ) (c : Change) (l : Deal) (h : Heard) : Type 0 where
+  pub tone : h .tone ≡ Tone.Numbered
+  pub index : h .index ≡ i
+  pub number : h .number ≡ n
+  pub change : changeIn h ≡ c
+  pub deal : dealIn h ≡ l
+
+abbrev pub Means : Act Effect → Heard → Type 0
+Means (clearing i next) h = h .tone ≡ Tone.Clear
+Means (numbered i n e) h = Tells i n (changeOf e) (dealOf e) h
+
+-- ---- what reading answered, whatever the state is
+pub record HearsNumbered (x : Read) (h : Heard) : Type 0 where
+  pub effect : Effect
+  pub acts : (v : View) → stepOf v x ≡ actOn v (numbered (h .index) (h .number) effect)
+  pub change : changeIn h ≡ changeOf effect
+  pub deal : dealIn h ≡ dealOf effect
+
+abbrev pub HearsBy : Read → Heard → Tone → Type 0
+HearsBy x h Tone.Refused = (v : View) → stepOf v x ≡ refusing v (h .answer)
+HearsBy x h Tone.Numbered = HearsNumbered x h
+HearsBy x h Tone.Clear = Unit {0}
+
+abbrev pub Hears : Read → Heard → Type 0
+Hears x h = HearsBy x h (h .tone)
+
+-- the place of its symbol, as the tickets tell it
+abbrev pub seatBy : List ℕ → ℕ → Tone → ℕ
+seatBy ts i Tone.Refused = symbols
+seatBy ts i Tone.Numbered = firstIn ts 0 symbols (suc i)
+seatBy ts i Tone.Clear = symbols
+
+abbrev pub seatOf : List ℕ → Heard → ℕ
+seatOf ts h = seatBy ts (h .index) (h .tone)
+
+abbrev pub SitsBy : Book → ℕ → ℕ → Tone → Type 0
+SitsBy b i k Tone.Refused = Unit {0}
+SitsBy b i k Tone.Numbered = k ≡ placeOf itself i (entries (b .symbols))
+SitsBy b i k Tone.Clear = Unit {0}
+
+abbrev pub Sits : Book → Heard → ℕ → Type 0
+Sits b h k = SitsBy b (h .index) k (h .tone)
 
 -- ---- how it stands with it: a message in its turn is done by what does its change and its deal
 pub record InTurn (b : Book) (x : Read) (k : ℕ) (c : Change) (l : Deal) : Type 0 where

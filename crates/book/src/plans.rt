@@ -1,6 +1,8 @@
 // What is done of a message: nothing; single places are stored to; or the step goes by value.
 use crate::hearing::Turn;
 use orders::Change;
+use orders::Edit;
+use orders::Fit;
 use orders::Landing;
 use orders::ORDERS;
 use orders::Order;
@@ -11,7 +13,7 @@ use orders::land;
 ghost use mathlib.Core.Path.{_≡_};
 ghost use Rattle.wire.specs.Reading.{Read};
 ghost use Rattle.orders.specs.State.{ordersEach};
-ghost use Rattle.orders.specs.Deciding.{besides, beside, LandsAs};
+ghost use Rattle.orders.specs.Deciding.{changeAs, besides, beside, LandsAs};
 ghost use Rattle.book.specs.State.{Wf};
 ghost use Rattle.book.specs.declared.Book.{Book};
 ghost use Rattle.book.specs.declared.hearing.Heard.{Heard};
@@ -38,10 +40,10 @@ pub(crate) fn planned<'a>(
     k: usize,
     i: usize,
     x: Order,
-    change: Change,
+    change: Edit,
     t: Turn,
 ) -> Plan
-    ensures plans { λ r. ⌜ ((b : Book) (z : Read) (h : Heard) → Wf b → besides (b .orders) ≡ beside (now (numbers .entry)) (now (lives .entry)) (now (spans .entry)) → change ≡ changeIn h → TurnIn b z h k t → Looked b k i x change → Plans b z h k r) ⌝ }
+    ensures plans { λ r. ⌜ ((b : Book) (z : Read) (h : Heard) → Wf b → besides (b .orders) ≡ beside (now (numbers .entry)) (now (lives .entry)) (now (spans .entry)) → changeAs change ≡ changeIn h → TurnIn b z h k t → Looked b k i x (changeAs change) → Plans b z h k r) ⌝ }
     ensures within { λ r. ⌜ Within r ⌝ }
 {
     match t {
@@ -58,15 +60,17 @@ fn landed(k: usize, i: usize, x: Order, v: Verdict) -> Plan
     ensures plans { λ r. ⌜ ((b : Book) (c : Change) → Wf b → Judged b k i x c v → PlansLanding b k c r) ⌝ }
     ensures within { λ r. ⌜ Within r ⌝ }
 {
-    match v {
-        Verdict::Stays => again(Way::Lands, 0, k, i, x),
-        Verdict::Fits { gone, place, order } => Plan {
-            way: Way::Lands,
-            answer: 0,
-            landing: land(k, gone, place, order, i, x),
-        },
-        Verdict::Misfit => again(Way::Steps, 0, k, i, x),
-        Verdict::NoRoom => again(Way::Steps, 0, k, i, x),
+    let fit = v.fit;
+    match fit {
+        Fit::Fits => {
+            let order = v.order;
+            Plan {
+                way: Way::Lands,
+                answer: 0,
+                landing: land(k, v.gone, v.place, order, i, x),
+            }
+        }
+        _ => again(Way::Steps, 0, k, i, x),
     }
 }
 

@@ -1,7 +1,7 @@
 -- What was refused says its number, and a message acts as it means.
-use mathlib.Core.Path.{sym, ap, _∙_}
-use Rattle.book.specs.Step.{actOn, actedAs, stepOf}
+use Rattle.book.specs.Step.{stepOf}
 use Rattle.book.proofs.Acting.{refused-read, read-acts}
+use Rattle.book.proofs.Planning.{hears-refused, hears-act}
 use borrow.Author.Needs.{needs}
 use Rattle.book.proofs.hearing.hear.Statement.{statement}
 use Rattle.book.proofs.hearing.hear.Tie as tie
@@ -12,28 +12,19 @@ enum-known-a c = search needs
 number-of-answer-requires : tie.Need-number-of-answer-requires
 number-of-answer-requires c κs = search needs
 
+unnumbered-requires : tie.Need-unnumbered-requires
+unnumbered-requires c κs = search needs
+
 returns : tie.Need-returns
 unfolding stepOf
-returns c v = rw (c .number-of-answer .ensures) (refused-read v (c .before .before .args .d .answer) (c .before .match .keys2))
+returns c = hears-refused _ (c .unnumbered .result) _ (c .unnumbered .ensures .0) (c .unnumbered .ensures .1) (λ v. rw (c .before .number-of-answer .ensures) (refused-read v (c .before .before .before .args .d .answer) (c .before .before .match .keys2)))
 
-act-of-requires : tie.Need-act-of-requires
-act-of-requires c κs = search needs
-
-enum-told : tie.Need-enum-told
-enum-told c = search needs
-
-enum-known-act : tie.Need-enum-known-act
-enum-known-act c = search needs
+heard-of-requires : tie.Need-heard-of-requires
+heard-of-requires c κs = search needs
 
 returns-2 : tie.Need-returns-2
-returns-2 c = search needs
-
-returns-3 : tie.Need-returns-3
 unfolding stepOf
-returns-3 c v =
-    let k = c .before .before .before in
-    let s = k .before .before .before .before in
-    read-acts v (s .args .d .answer) _ (k .before .before .a .given .1) .0 ∙ ap (actOn v) (sym (k .act-of .ensures) ∙ ap actedAs (c .before .act .given .1))
+returns-2 c = hears-act _ (c .heard-of .result) _ (c .heard-of .ensures) (λ v. read-acts v (c .before .before .before .before .args .d .answer) _ (c .before .before .a .given .1) .0)
 
 pub hear-spec : {M : Type 1} → statement M
 hear-spec =
@@ -41,9 +32,7 @@ hear-spec =
     (tie.spec
     enum-known-a
     number-of-answer-requires
+    unnumbered-requires
     returns
-    act-of-requires
-    enum-told
-    enum-known-act
-    returns-2
-    returns-3)
+    heard-of-requires
+    returns-2)

@@ -1,7 +1,4 @@
 -- Only a numbered message is looked for.
-use mathlib.Core.Path.{sym, ap, _∙_}
-use denote.Ref.{now}
-use Rattle.book.specs.Planning.{seatOf}
 use borrow.Author.Needs.{needs}
 use Rattle.book.proofs.hearing.seat_of.Statement.{statement}
 use Rattle.book.proofs.hearing.seat_of.Tie as tie
@@ -9,23 +6,25 @@ use Rattle.book.proofs.hearing.seat_of.Tie as tie
 enum-told : tie.Need-enum-told
 enum-told c = search needs
 
-enum-known-h : tie.Need-enum-known-h
-enum-known-h c = search needs
+enum-told-2 : tie.Need-enum-told-2
+enum-told-2 c = search needs
 
 seat-requires : tie.Need-seat-requires
 seat-requires c κs = search needs
 
-enum-told-2 : tie.Need-enum-told-2
-enum-told-2 c = search needs
+enum-told-3 : tie.Need-enum-told-3
+enum-told-3 c = search needs
 
 returns : tie.Need-returns
-returns c = sym (ap (seatOf (now (c .before .before .args .tickets))) (c .enum-told .given .1))
+returns c = rw (c .enum-told .given .1)
 
 returns-2 : tie.Need-returns-2
-returns-2 c = c .seat .ensures ∙ sym (ap (seatOf (now (c .before .before .before .before .args .tickets))) (c .before .before .h .given .1))
+returns-2 c = rw (c .before .enum-told2 .given .1) (c .seat .ensures)
 
 returns-3 : tie.Need-returns-3
-returns-3 c = sym (ap (seatOf (now (c .before .before .args .tickets))) (c .enum-told2 .given .1))
+returns-3 c = rw (c .enum-told3 .given .1)
 
 pub seat-of-spec : {M : Type 1} → statement M
-seat-of-spec = tie.close (tie.spec enum-told enum-known-h seat-requires enum-told-2 returns returns-2 returns-3)
+seat-of-spec =
+    tie.close
+    (tie.spec enum-told enum-told-2 seat-requires enum-told-3 returns returns-2 returns-3)

@@ -2,6 +2,7 @@
 use mathlib.Core.Path.{_≡_, sym}
 use Prim.Native.Nat.{ℕ}
 use Rattle.wire.specs.Reading.{Read}
+use Rattle.orders.specs.Deciding.{changeAs}
 use Rattle.orders.specs.declared.Change.{Change}
 use Rattle.orders.specs.declared.landing.Landing.{Landing}
 use Rattle.book.specs.Planning.{changeIn, dealIn, InTurn, LandsBy, PlansBy}
@@ -46,7 +47,7 @@ returns-2 : tie.Need-returns-2
 returns-2 c = (
   λ b z h w same e turn looked.
       let t = (rw (c .before .before .enum-told .given .1) at turn) in
-      turned b z h _ _ e t _ _ (c .landed .result .way) (c .landed .ensures .0 b (c .before .before .before .before .args .change) w (judges b w _ _ _ _ same _ _ _ (t .awaits .place) looked _ (c .before .judged .ensures))),
+      turned b z h _ _ e t _ _ (c .landed .result .way) (c .landed .ensures .0 b (changeAs (c .before .before .before .before .args .change)) w (judges b w _ _ _ _ same _ _ _ (t .awaits .place) looked _ (c .before .judged .ensures))),
   c .landed .ensures .1,
 )
 
