@@ -70,6 +70,7 @@ Means (clearing i next) h = h .tone ≡ Tone.Clear
 Means (numbered i n e) h = Tells i n (changeOf e) (dealOf e) h
 
 -- ---- what reading answered, whatever the state is
+-- a numbered message acts by an effect that is the change and the deal heard
 pub record HearsNumbered (x : Read) (h : Heard) : Type 0 where
   pub effect : Effect
   pub acts : (v : View) → stepOf v x ≡ actOn v (numbered (h .index) (h .number) effect)

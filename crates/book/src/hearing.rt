@@ -22,8 +22,8 @@ ghost use Rattle.book.specs.declared.Book.{Book};
 ghost use Rattle.book.specs.Step.{ifPrintable, meant};
 ghost use Rattle.book.specs.Planning.{Tells, Means, HearsNumbered, Hears, Sits, seatOf, TurnIn, dealBy, changeIn, dealIn};
 
-// What reading answered: refused, with its answer; a numbered message, with what it does to the orders and what it brings to the record; or a clear. All of it is flat, because each
-// message passes through here.
+// What reading answered: refused, with its answer; a numbered message, with what it does to the orders and what it brings to the record; or a clear. It is flat, so that a run hands it
+// on in registers.
 pub(crate) struct Heard {
     pub(crate) tone: Tone,
     pub(crate) answer: u8,
