@@ -1,5 +1,5 @@
 -- A plan is held to the rule: what is heard of a message, the turn at its symbol, and stores of single places that are the change and the deal.
-use mathlib.Core.Bool.{Bool, cond, false≢true}
+use mathlib.Core.Bool.{Bool, false, cond, false≢true}
 use mathlib.Core.List.{List}
 use mathlib.Core.Logic.{_≢_}
 use mathlib.Core.Option.{Option}
@@ -21,7 +21,7 @@ use Rattle.symbols.proofs.Entries.{entry-at, seat-is}
 use Rattle.symbols.proofs.Altering.{stands}
 use Rattle.orders.specs.State.{ordersEach, noOrder, liveAt, shelfAt}
 use Rattle.orders.specs.Rules.{applyTo}
-use Rattle.orders.specs.Deciding.{Beside, beside, besides, liveOrders, Found, Lies, Searchable, Decides, Mirrors, LandsAs}
+use Rattle.orders.specs.Deciding.{Beside, beside, besides, liveOrders, Found, Lies, Searchable, Decides, Mirrors, LandsAs, laidIn}
 use Rattle.orders.specs.declared.Order.{Order}
 use Rattle.orders.specs.declared.Change.{Change}
 use Rattle.orders.specs.declared.Fit as code
@@ -31,20 +31,26 @@ use Rattle.orders.proofs.Finding.{searchable, looked-at}
 use Rattle.orders.proofs.Laying.{laid-obeys}
 use Rattle.record.specs.State as record-room
 use Rattle.record.specs.State.{tradesEach, noTrade, tradeNumber, tradeLive}
+use Rattle.record.specs.Rules.{dealTo}
 use Rattle.record.specs.Deciding as recording
+use Rattle.record.specs.Promises as dealing
+use Rattle.record.specs.declared.Record.{Record}
+use Rattle.record.specs.declared.Deal.{Deal}
 use Rattle.record.specs.declared.Trade.{Trade}
 use Rattle.record.specs.declared.rules.Recording.{Recording}
+use Rattle.record.proofs.Recording.{nothing-dealt}
 use Rattle.record.proofs.Storing as record-search
 use Rattle.record.proofs.Storing.{dealt, stored-in}
-use Rattle.book.specs.State.{View, Next, view, Wf}
+use Rattle.book.specs.State.{View, Next, view, tradesAt, Wf}
 use Rattle.book.specs.Step.{refusing, actOn, stepOf}
 use Rattle.book.specs.Promises.{Steps}
-use Rattle.book.specs.Planning.{Means, HearsNumbered, Hears, seatBy, seatOf, SitsBy, Sits, changeIn, dealIn, InTurn, TurnIn, Looked, Judged, Lays, storedIn}
+use Rattle.book.specs.Planning.{Means, HearsNumbered, Hears, seatBy, seatOf, SitsBy, Sits, changeIn, dealIn, InTurn, TurnIn, Looked, Judged, Lays, PlansBy, wayWith, dealtIn, landedIn}
 use Rattle.book.specs.declared.Book.{Book}
 use Rattle.book.specs.declared.acts.Effect.{Effect}
 use Rattle.book.specs.declared.hearing.Heard.{Heard}
 use Rattle.book.specs.declared.hearing.Tone.{Tone}
 use Rattle.book.specs.declared.hearing.Turn.{Turn}
+use Rattle.book.specs.declared.plans.Way.{Way}
 use Rattle.book.proofs.Acting.{Asked, meeting-away, meeting-turn, awaits, act-nobody}
 use Rattle.book.proofs.Stores.{enacts-done}
 use Rattle.book.proofs.Views.{same-market}
@@ -118,32 +124,77 @@ pub nothing-steps : (b : Book) (z : Read) (a : ℕ) → (Wf b → stepOf (view b
 nothing-steps b z a e = record { market = refl; kept = λ u. refl; obeys = λ w. record { wf = w; next-view = sym (ap (λ (y : Next). y .view) (e w)); answer = sym (ap (λ (y : Next). y .answer) (e w)) } }
 
 module _ (b : Book) (z : Read) (h : Heard) (k : ℕ) where
-  -- the orders' two stores, then the record's and the symbol's, each where it lies
-  pub record Stored (r : Recording) (seat at : ℕ) (p q : Place) (t : Trade) (n : ℕ) : Type 0 where
-    pub decides : k < symbols → recording.Searchable (b .trades .places) (b .trades .tickets) → recording.TradeShelf (record-room.shelfAt (b .trades) k) → recording.Decides (record-room.shelfAt (b .trades) k) (dealIn h) r
-    pub slot : at ≡ spotIn tradesEach k (r .place)
-    pub trade : t ≡ cond (ltb (r .place) tradesEach) (r .trade) (getD (b .trades .places) at noTrade)
-    pub ticket : n ≡ ticket tradeNumber tradeLive t
+  -- the symbol's number is counted at its own place
+  pub record Counts (seat : ℕ) (lost : Bool) (p q : Place) : Type 0 where
     pub own : seat ≡ spotIn 1 k 0
     pub lies : p ≡ getD (b .symbols .places) seat nowhere
-    pub counted : q ≡ restanding p (countedIf (r .lost) (p .standing))
+    pub counted : q ≡ restanding p (countedIf lost (p .standing))
 
-  module _ (r : Recording) (seat slot : ℕ) (p q : Place) (t : Trade) (n : ℕ) (s : Stored r seat slot p q t n) (l : Landing) (m : Beside) (mirrored : Mirrors (besides (b .orders)) k (l .gone) (l .place) (l .order) m) where
-    abbrev after : Book
-    after = storedIn b seat q l m slot t n
-
-    pub stores-step : (Wf b → InTurn b z k (changeIn h) (dealIn h) × Lays b k (changeIn h) l) → Steps b (stepOf (view b) z) (record { book = after; answer = 0 })
+  module _ (seat : ℕ) (lost : Bool) (p q : Place) (s : Counts seat lost p q) (l : Landing) (m : Beside) (mirrored : Mirrors (besides (b .orders)) k (l .gone) (l .place) (l .order) m)
+      (plans : Wf b → InTurn b z k (changeIn h) (dealIn h) × Lays b k (changeIn h) l) where
+    -- the orders' two stores, a record that the deal gives, and the symbol's number
+    lands-with : (ts : Record) → (k < symbols → Wf b → dealing.Obeys (b .trades) k (dealTo (tradesAt b k) (dealIn h)) (record { trades = ts; lost = lost })) → Steps b (stepOf (view b) z) (record { book = landedIn b seat q l m ts; answer = 0 })
     unfolding among
-    stores-step plans = record {
-      market = same-market b after refl;
+    lands-with ts deals = record {
+      market = same-market b (landedIn b seat q l m ts) refl;
       kept = λ u. absurd (false≢true u);
       obeys = λ w.
           let turn = plans w .0 in
           let g = turn .awaits .place in
           let at : seat ≡ k = s .own ∙ own-seat k g in
-          let moved : q ≡ restanding (placeAt (b .symbols) k) (countedIf (r .lost) (placeAt (b .symbols) k .standing)) = s .counted ∙ ap (λ (y : Place). restanding y (countedIf (r .lost) (y .standing))) (s .lies ∙ ap (λ (j : ℕ). getD (b .symbols .places) j nowhere) at) in
-          let trades = dealt (b .trades) k (dealIn h) r g (w .trades) (s .decides g (record-search.searchable (b .trades) (w .trades)) (record-search.whole (b .trades) k g (w .trades))) in
-          let kept = stored-in (b .trades) k g (w .trades) (r .place) (r .trade) in
-          turn .enacts (record { book = after; answer = 0 }) (enacts-done b k (changeIn h) (dealIn h) (turn .awaits) (record { orders = after .orders; fit = code.Fit.Fits }) refl (record { trades = after .trades; lost = r .lost }) (after .symbols)
-          (λ u. plans w .1 m mirrored) (λ u. rw (s .ticket, s .trade, s .slot, kept) trades) (λ u. rw (at, moved) (stands (b .symbols) k (countedIf (r .lost)) g (w .names .long)))) .obeys w;
+          let moved : q ≡ restanding (placeAt (b .symbols) k) (countedIf lost (placeAt (b .symbols) k .standing)) = s .counted ∙ ap (λ (y : Place). restanding y (countedIf lost (y .standing))) (s .lies ∙ ap (λ (j : ℕ). getD (b .symbols .places) j nowhere) at) in
+          turn .enacts (record { book = landedIn b seat q l m ts; answer = 0 })
+          (enacts-done b k (changeIn h) (dealIn h) (turn .awaits) (record { orders = laidIn (b .orders) l m; fit = code.Fit.Fits }) refl (record { trades = ts; lost = lost }) (landedIn b seat q l m ts .symbols)
+          (λ u. plans w .1 m mirrored) (λ u. deals g w) (λ u. rw (at, moved) (stands (b .symbols) k (countedIf lost) g (w .names .long)))) .obeys w;
     }
+
+    -- nothing comes to the record
+    pub lands-step : dealIn h ≡ Deal.Nothing → lost ≡ false → Steps b (stepOf (view b) z) (record { book = landedIn b seat q l m (b .trades); answer = 0 })
+    lands-step e f = lands-with (b .trades) (λ g w. rw (e, f) (dealt (b .trades) k Deal.Nothing (recording.unrecorded false) g (w .trades) (nothing-dealt (record-room.shelfAt (b .trades) k) (record-search.whole (b .trades) k g (w .trades)))))
+
+    -- the trade goes to its slot, or what lies there is stored again
+    pub stores-step : (r : Recording) (slot : ℕ) (t : Trade) (n : ℕ) → lost ≡ r .lost
+        → (k < symbols → recording.Searchable (b .trades .places) (b .trades .tickets) → recording.TradeShelf (record-room.shelfAt (b .trades) k) → recording.Decides (record-room.shelfAt (b .trades) k) (dealIn h) r)
+        → slot ≡ spotIn tradesEach k (r .place) → t ≡ cond (ltb (r .place) tradesEach) (r .trade) (getD (b .trades .places) slot noTrade) → n ≡ ticket tradeNumber tradeLive t
+        → Steps b (stepOf (view b) z) (record { book = landedIn b seat q l m (dealtIn b slot t n); answer = 0 })
+    stores-step r slot t n f decides at trade is = lands-with (dealtIn b slot t n)
+        (λ g w. let trades = dealt (b .trades) k (dealIn h) r g (w .trades) (decides g (record-search.searchable (b .trades) (w .trades)) (record-search.whole (b .trades) k g (w .trades))) in
+        let kept = stored-in (b .trades) k g (w .trades) (r .place) (r .trade) in
+        rw (f, is, trade, at, kept) trades)
+
+-- ---- which way it went, with a deal
+abbrev numberOfWay : Way → ℕ
+numberOfWay Way.Nothing = 0
+numberOfWay Way.Lands = 1
+numberOfWay Way.Deals = 2
+numberOfWay Way.Steps = 3
+
+pub went-nowhere : (w : Way) (d : Deal) → wayWith w d ≡ Way.Nothing → w ≡ Way.Nothing
+went-nowhere Way.Nothing d e = refl
+went-nowhere Way.Lands Deal.Nothing e = absurd (omega (arith, ap numberOfWay e))
+went-nowhere Way.Lands (Deal.Records n p v) e = absurd (omega (arith, ap numberOfWay e))
+went-nowhere Way.Lands (Deal.Cancels n) e = absurd (omega (arith, ap numberOfWay e))
+went-nowhere Way.Deals d e = absurd (omega (arith, ap numberOfWay e))
+went-nowhere Way.Steps d e = absurd (omega (arith, ap numberOfWay e))
+
+pub brings-nothing : (w : Way) (d : Deal) → wayWith w d ≡ Way.Lands → d ≡ Deal.Nothing
+brings-nothing Way.Nothing d e = absurd (omega (arith, ap numberOfWay e))
+brings-nothing Way.Lands Deal.Nothing e = refl
+brings-nothing Way.Lands (Deal.Records n p v) e = absurd (omega (arith, ap numberOfWay e))
+brings-nothing Way.Lands (Deal.Cancels n) e = absurd (omega (arith, ap numberOfWay e))
+brings-nothing Way.Deals d e = absurd (omega (arith, ap numberOfWay e))
+brings-nothing Way.Steps d e = absurd (omega (arith, ap numberOfWay e))
+
+-- what lands, with a deal or without one, was planned to
+module _ (b : Book) (z : Read) (h : Heard) (k a : ℕ) (l : Landing) where
+  planned-so : (w : Way) (d : Deal) → 1 ≤ numberOfWay (wayWith w d) → numberOfWay (wayWith w d) ≤ 2 → PlansBy b z h k a l w → InTurn b z k (changeIn h) (dealIn h) × Lays b k (changeIn h) l
+  planned-so Way.Nothing d e f p = absurd (omega (arith, e))
+  planned-so Way.Lands d e f p = p
+  planned-so Way.Deals d e f p = p
+  planned-so Way.Steps d e f p = absurd (omega (arith, f))
+
+  pub lands-as-planned : (w : Way) (d : Deal) → wayWith w d ≡ Way.Lands → PlansBy b z h k a l w → InTurn b z k (changeIn h) (dealIn h) × Lays b k (changeIn h) l
+  lands-as-planned w d e = planned-so w d (omega (arith, ap numberOfWay e)) (omega (arith, ap numberOfWay e))
+
+  pub deals-as-planned : (w : Way) (d : Deal) → wayWith w d ≡ Way.Deals → PlansBy b z h k a l w → InTurn b z k (changeIn h) (dealIn h) × Lays b k (changeIn h) l
+  deals-as-planned w d e = planned-so w d (omega (arith, ap numberOfWay e)) (omega (arith, ap numberOfWay e))

@@ -22,6 +22,7 @@ use Rattle.orders.specs.declared.Fit as code
 use Rattle.orders.specs.declared.landing.Landing.{Landing}
 use Rattle.orders.specs.declared.rules.Verdict.{Verdict}
 use Rattle.record.specs.declared.Trade.{Trade}
+use Rattle.record.specs.declared.Record.{Record}
 use Rattle.record.specs.declared.Deal.{Deal}
 use Rattle.book.specs.State.{View, ordersAt, view}
 use Rattle.book.specs.Step.{changeOf, dealOf, refusing, actOn, stepOf}
@@ -130,6 +131,7 @@ Lays b k c l = (m : Beside) → Mirrors (besides (b .orders)) k (l .gone) (l .pl
 abbrev pub LandsBy : Book → ℕ → Change → Landing → Way → Type 0
 LandsBy b k c l Way.Nothing = ⊥
 LandsBy b k c l Way.Lands = Lays b k c l
+LandsBy b k c l Way.Deals = Lays b k c l
 LandsBy b k c l Way.Steps = Unit {0}
 
 abbrev pub PlansLanding : Book → ℕ → Change → Plan → Type 0
@@ -138,20 +140,33 @@ PlansLanding b k c r = LandsBy b k c (r .landing) (r .way)
 abbrev pub PlansBy : Book → Read → Heard → ℕ → ℕ → Landing → Way → Type 0
 PlansBy b x h k a l Way.Nothing = stepOf (view b) x ≡ refusing (view b) a
 PlansBy b x h k a l Way.Lands = InTurn b x k (changeIn h) (dealIn h) × Lays b k (changeIn h) l
+PlansBy b x h k a l Way.Deals = InTurn b x k (changeIn h) (dealIn h) × Lays b k (changeIn h) l
 PlansBy b x h k a l Way.Steps = Unit {0}
 
 abbrev pub Plans : Book → Read → Heard → ℕ → Plan → Type 0
 Plans b x h k r = PlansBy b x h k (r .answer) (r .landing) (r .way)
 
+-- a landing that brings something to the record deals
+abbrev pub wayWith : Way → Deal → Way
+wayWith Way.Nothing d = Way.Nothing
+wayWith Way.Lands Deal.Nothing = Way.Lands
+wayWith Way.Lands (Deal.Records n p v) = Way.Deals
+wayWith Way.Lands (Deal.Cancels n) = Way.Deals
+wayWith Way.Deals d = Way.Deals
+wayWith Way.Steps d = Way.Steps
+
 -- every store is within its array
 abbrev pub Within : Plan → Type 0
 Within r = (r .landing .emptied < symbols * ordersEach) × (r .landing .filled < symbols * ordersEach)
 
--- ---- the state once all is stored: the symbol at its seat, the orders, and the trade at its slot
-abbrev pub storedIn : Book → ℕ → Place → Landing → Beside → ℕ → Trade → ℕ → Book
-storedIn b seat p l m slot t n = record {
+-- ---- the state once all is stored: the symbol at its seat, the orders, and the record with a trade at its slot
+abbrev pub dealtIn : Book → ℕ → Trade → ℕ → Record
+dealtIn b slot t n = record { places = set (b .trades .places) slot t; tickets = set (b .trades .tickets) slot n }
+
+abbrev pub landedIn : Book → ℕ → Place → Landing → Beside → Record → Book
+landedIn b seat p l m ts = record {
   symbols = record { places = set (b .symbols .places) seat p; tickets = b .symbols .tickets };
   orders = laidIn (b .orders) l m;
-  trades = record { places = set (b .trades .places) slot t; tickets = set (b .trades .tickets) slot n };
+  trades = ts;
   market = b .market;
 }

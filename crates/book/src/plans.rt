@@ -10,6 +10,7 @@ use orders::PLACES;
 use orders::Verdict;
 use orders::judged;
 use orders::land;
+use record::Deal;
 ghost use mathlib.Core.Path.{_≡_};
 ghost use Rattle.wire.specs.Reading.{Read};
 ghost use Rattle.orders.specs.State.{ordersEach};
@@ -17,12 +18,13 @@ ghost use Rattle.orders.specs.Deciding.{changeAs, besides, beside, LandsAs};
 ghost use Rattle.book.specs.State.{Wf};
 ghost use Rattle.book.specs.declared.Book.{Book};
 ghost use Rattle.book.specs.declared.hearing.Heard.{Heard};
-ghost use Rattle.book.specs.Planning.{changeIn, TurnIn, Looked, Judged, Plans, PlansLanding, Within};
+ghost use Rattle.book.specs.Planning.{changeIn, TurnIn, Looked, Judged, wayWith, Plans, PlansLanding, Within};
 
-// The three ways. A plan that lands says where: the orders change so, and with them the record and what the symbol expects. One that does nothing has its answer.
+// The ways. A plan that lands says where: the orders change so, and what the symbol expects; one that deals does so too, and changes the record. One that does nothing has its answer.
 pub(crate) enum Way {
     Nothing,
     Lands,
+    Deals,
     Steps,
 }
 
@@ -53,6 +55,28 @@ pub(crate) fn planned<'a>(
             landed(k, i, x, v)
         }
         Turn::Steps => again(Way::Steps, 0, k, i, x),
+    }
+}
+
+// A landing that brings something to the record deals.
+pub(crate) fn with_deal(way: Way, deal: Deal) -> Way
+    ensures { λ r. ⌜ r ≡ wayWith way deal ⌝ }
+{
+    match way {
+        Way::Nothing => Way::Nothing,
+        Way::Lands => landing_with(deal),
+        Way::Deals => Way::Deals,
+        Way::Steps => Way::Steps,
+    }
+}
+
+fn landing_with(deal: Deal) -> Way
+    ensures { λ r. ⌜ r ≡ wayWith Way.Lands deal ⌝ }
+{
+    match deal {
+        Deal::Nothing => Way::Lands,
+        Deal::Records(_, _, _) => Way::Deals,
+        Deal::Cancels(_) => Way::Deals,
     }
 }
 

@@ -7,6 +7,7 @@ use crate::hearing::seat_of;
 use crate::hearing::turn_in;
 use crate::plans::Way;
 use crate::plans::planned;
+use crate::plans::with_deal;
 use orders::Order;
 use orders::Orders;
 use orders::looked;
@@ -196,7 +197,9 @@ impl Book {
                     let found = spot(k, orders::EACH, i);
                     let x = orders[found];
                     let plan = planned(&numbers, &lives, &spans, k, i, x, change, t);
-                    let way = plan.way;
+                    let deal = deal_of(h);
+                    let settled = plan.way;
+                    let way = with_deal(settled, deal);
                     match way {
                         Way::Nothing => note(notes, j, plan.answer),
                         Way::Lands => {
@@ -215,14 +218,36 @@ impl Book {
                                 l.place,
                                 order,
                             );
-                            let r = decided(&tickets, k, deal_of(h));
+                            let q = places[seat];
+                            let next = counted(q, false);
+                            places[seat] = next;
+                            note(notes, j, 0);
+                        }
+                        Way::Deals => {
+                            let l = plan.landing;
+                            let emptied = l.emptied;
+                            let filled = l.filled;
+                            let order = l.order;
+                            orders[emptied] = none;
+                            orders[filled] = order;
+                            mirror(
+                                &mut numbers,
+                                &mut lives,
+                                &mut spans,
+                                k,
+                                l.gone,
+                                l.place,
+                                order,
+                            );
+                            let r = decided(&tickets, k, deal);
                             let slot = spot(k, record::EACH, r.place);
                             let lies = trades[slot];
                             let brought = r.trade;
                             let trade = trade_or(r.place, brought, lies);
                             trades[slot] = trade;
                             tickets[slot] = ticket_of(trade);
-                            let next = counted(p, r.lost);
+                            let q = places[seat];
+                            let next = counted(q, r.lost);
                             places[seat] = next;
                             note(notes, j, 0);
                         }

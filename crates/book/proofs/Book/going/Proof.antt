@@ -1,4 +1,5 @@
 -- The state stands in locals, array by array: what is left of the walk from here gives what the walk from the start gives. Each turn is a step of the state that the arrays make.
+use mathlib.Core.Bool.{false}
 use mathlib.Core.Path.{_≡_, refl, sym, ap, _∙_}
 use Prim.Native.Nat.{ℕ, _+_, _-_, _≤_}
 use native.Mathlib.Omega.{arith}
@@ -15,7 +16,7 @@ use Rattle.book.specs.State.{Wf}
 use Rattle.book.specs.Planning.{bookOf, Plans}
 use Rattle.book.specs.declared.Book.{Book}
 use Rattle.book.proofs.Walking.{Left, left-all, move-within, turn-stops, turn-full, turn-less, turn-on}
-use Rattle.book.proofs.Planning.{sits, own-seat, nothing-steps, stores-step}
+use Rattle.book.proofs.Planning.{sits, own-seat, nothing-steps, lands-step, stores-step, went-nowhere, brings-nothing, lands-as-planned, deals-as-planned}
 use borrow.Author.Needs.{needs}
 use Rattle.book.proofs.Book.going.Statement.{statement}
 use Rattle.book.proofs.Book.going.Tie as tie
@@ -156,6 +157,12 @@ array-copy-out-x c = omega (arith, c .spot2 .ensures, spot-within ordersEach (c 
 planned-requires : tie.Need-planned-requires Inv-loop μ-loop
 planned-requires c κs = search needs
 
+deal-of-requires : tie.Need-deal-of-requires Inv-loop μ-loop
+deal-of-requires c κs = search needs
+
+with-deal-requires : tie.Need-with-deal-requires Inv-loop μ-loop
+with-deal-requires c κs = search needs
+
 enum-told-3 : tie.Need-enum-told-3 Inv-loop μ-loop
 enum-told-3 c = search needs
 
@@ -163,39 +170,89 @@ note-requires : tie.Need-note-requires Inv-loop μ-loop
 note-requires c κs = search needs
 
 loop-less : tie.Need-loop-less Inv-loop μ-loop
-loop-less c = let m = c .before .before .before .before .before .before .before .before .before .before .before .before .before .before .before .before .before .before .before .before .before .before .before .before .before .before in turn-less _ _ _ _ _ _ _ _ _ (m .before .before .before .before .loop .inv .1) (m .before .reach .given .0 .0) (reaches m)
+loop-less c = let m = c .before .before .before .before .before .before .before .before .before .before .before .before .before .before .before .before .before .before .before .before .before .before .before .before .before .before .before .before in turn-less _ _ _ _ _ _ _ _ _ (m .before .before .before .before .loop .inv .1) (m .before .reach .given .0 .0) (reaches m)
 
 loop-again : tie.Need-loop-again Inv-loop μ-loop
 loop-again c =
-    let k = c .before .before .before .before .before .before in
-    let m = c .before .before .before .before .before .before .before .before .before .before .before .before .before .before .before .before .before .before .before .before .before .before .before .before .before .before in
-    let q = c .before .before .before .before .before .before .before .before .before .before .before .before .before .before .before .before .before .before .before .before .before .before .before in
+    let k = c .before .before .before .before .before .before .before .before in
+    let m = c .before .before .before .before .before .before .before .before .before .before .before .before .before .before .before .before .before .before .before .before .before .before .before .before .before .before .before .before in
+    let q = c .before .before .before .before .before .before .before .before .before .before .before .before .before .before .before .before .before .before .before .before .before .before .before .before .before in
     rw (c .before .before .note .ensures) (
-      length-set (c .before .before .before .before .before .before .before .before .before .before .before .before .before .before .before .before .before .before .before .before .before .before .before .before .before .before .before .before .before .before .loop .notes) (c .before .before .before .before .before .before .before .before .before .before .before .before .before .before .before .before .before .before .before .before .before .before .before .before .before .before .before .before .before .before .loop .count) (c .before .before .before .before .before .before .planned .result .answer) ∙ c .before .before .before .before .before .before .before .before .before .before .before .before .before .before .before .before .before .before .before .before .before .before .before .before .before .before .before .before .before .before .loop .inv .0,
-      turn-on _ _ _ _ _ _ _ _ _ (c .before .before .before .before .before .before .before .before .before .before .before .before .before .before .before .before .before .before .before .before .before .before .before .before .before .before .before .before .before .before .loop .inv .1) (m .before .reach .given .0 .0) (reaches m) (q .decode .result) _ (m .before .before .before .before .before .before .before .before .before .before .before .before .before .before .before .before .before .market-of .ensures) (q .decode .ensures .0) (record { book = _; answer = _ })
-          (nothing-steps (state k) _ _ (λ w. rw (c .before .before .before .before .enum-told3 .given .1) at (plans k w))) (c .before .before .before .before .before .before .before .before .before .before .before .before .before .before .before .before .before .before .before .before .before .before .before .before .before .if1 .left),
+      length-set (c .before .before .before .before .before .before .before .before .before .before .before .before .before .before .before .before .before .before .before .before .before .before .before .before .before .before .before .before .before .before .before .before .loop .notes) (c .before .before .before .before .before .before .before .before .before .before .before .before .before .before .before .before .before .before .before .before .before .before .before .before .before .before .before .before .before .before .before .before .loop .count) (c .before .before .before .before .before .before .before .before .planned .result .answer) ∙ c .before .before .before .before .before .before .before .before .before .before .before .before .before .before .before .before .before .before .before .before .before .before .before .before .before .before .before .before .before .before .before .before .loop .inv .0,
+      turn-on _ _ _ _ _ _ _ _ _ (c .before .before .before .before .before .before .before .before .before .before .before .before .before .before .before .before .before .before .before .before .before .before .before .before .before .before .before .before .before .before .before .before .loop .inv .1) (m .before .reach .given .0 .0) (reaches m) (q .decode .result) _ (m .before .before .before .before .before .before .before .before .before .before .before .before .before .before .before .before .before .market-of .ensures) (q .decode .ensures .0) (record { book = _; answer = _ })
+          (nothing-steps (state k) _ _ (λ w. rw (went-nowhere (k .planned .result .way) (c .before .before .before .before .before .before .before .deal-of .result) (sym (c .before .before .before .before .before .before .with-deal .ensures) ∙ c .before .before .before .before .enum-told3 .given .1)) at (plans k w))) (c .before .before .before .before .before .before .before .before .before .before .before .before .before .before .before .before .before .before .before .before .before .before .before .before .before .before .before .if1 .left),
     )
 
 enum-told-4 : tie.Need-enum-told-4 Inv-loop μ-loop
 enum-told-4 c = search needs
 
 mul-orders : tie.Need-mul-orders Inv-loop μ-loop
-mul-orders c = let n = c .before .before .before .before .planned .ensures .1 in omega (arith, n .0)
+mul-orders c = let n = c .before .before .before .before .before .before .planned .ensures .1 in omega (arith, n .0)
 
 array-set-from-orders : tie.Need-array-set-from-orders Inv-loop μ-loop
-array-set-from-orders c = let n = c .before .before .before .before .planned .ensures .1 in omega (arith, n .0)
+array-set-from-orders c = let n = c .before .before .before .before .before .before .planned .ensures .1 in omega (arith, n .0)
 
 mul-orders-2 : tie.Need-mul-orders-2 Inv-loop μ-loop
-mul-orders-2 c = let n = c .before .before .before .before .planned .ensures .1 in omega (arith, n .1)
+mul-orders-2 c = let n = c .before .before .before .before .before .before .planned .ensures .1 in omega (arith, n .1)
 
 array-set-from-orders-2 : tie.Need-array-set-from-orders-2 Inv-loop μ-loop
-array-set-from-orders-2 c = let n = c .before .before .before .before .planned .ensures .1 in omega (arith, n .1)
+array-set-from-orders-2 c = let n = c .before .before .before .before .before .before .planned .ensures .1 in omega (arith, n .1)
 
 mirror-requires : tie.Need-mirror-requires Inv-loop μ-loop
 mirror-requires c κs = search needs
 
-deal-of-requires : tie.Need-deal-of-requires Inv-loop μ-loop
-deal-of-requires c κs = search needs
+mul-q : tie.Need-mul-q Inv-loop μ-loop
+mul-q c = omega (arith, c .before .before .before .before .before .before .before .before .before .before .before .before .before .before .before .before .before .before .before .before .before .before .before .spot .ensures, spot-within 1 (c .before .before .before .before .before .before .before .before .before .before .before .before .before .before .before .before .before .before .before .before .before .before .before .before .seat-of .result) 0 (omega arith))
+
+array-copy-out-q : tie.Need-array-copy-out-q Inv-loop μ-loop
+array-copy-out-q c = omega (arith, c .before .before .before .before .before .before .before .before .before .before .before .before .before .before .before .before .before .before .before .before .before .before .before .spot .ensures, spot-within 1 (c .before .before .before .before .before .before .before .before .before .before .before .before .before .before .before .before .before .before .before .before .before .before .before .before .seat-of .result) 0 (omega arith))
+
+counted-requires : tie.Need-counted-requires Inv-loop μ-loop
+counted-requires c κs = search needs
+
+mul-places : tie.Need-mul-places Inv-loop μ-loop
+mul-places c = omega (arith, c .before .before .before .before .before .before .before .before .before .before .before .before .before .before .before .before .before .before .before .before .before .before .before .before .before .spot .ensures, spot-within 1 (c .before .before .before .before .before .before .before .before .before .before .before .before .before .before .before .before .before .before .before .before .before .before .before .before .before .before .seat-of .result) 0 (omega arith))
+
+array-set-from-places : tie.Need-array-set-from-places Inv-loop μ-loop
+array-set-from-places c = omega (arith, c .before .before .before .before .before .before .before .before .before .before .before .before .before .before .before .before .before .before .before .before .before .before .before .before .before .spot .ensures, spot-within 1 (c .before .before .before .before .before .before .before .before .before .before .before .before .before .before .before .before .before .before .before .before .before .before .before .before .before .before .seat-of .result) 0 (omega arith))
+
+note-requires-2 : tie.Need-note-requires-2 Inv-loop μ-loop
+note-requires-2 c κs = search needs
+
+loop-less-2 : tie.Need-loop-less-2 Inv-loop μ-loop
+loop-less-2 c = let m = c .before .before .before .before .before .before .before .before .before .before .before .before .before .before .before .before .before .before .before .before .before .before .before .before .before .before .before .before .before .before .before .before .before .before .before .before in turn-less _ _ _ _ _ _ _ _ _ (m .before .before .before .before .loop .inv .1) (m .before .reach .given .0 .0) (reaches m)
+
+loop-again-2 : tie.Need-loop-again-2 Inv-loop μ-loop
+loop-again-2 c =
+    let k = c .before .before .before .before .before .before .before .before .before .before .before .before .before .before .before .before in
+    let m = c .before .before .before .before .before .before .before .before .before .before .before .before .before .before .before .before .before .before .before .before .before .before .before .before .before .before .before .before .before .before .before .before .before .before .before .before in
+    let q = c .before .before .before .before .before .before .before .before .before .before .before .before .before .before .before .before .before .before .before .before .before .before .before .before .before .before .before .before .before .before .before .before .before in
+    rw (c .before .before .note2 .ensures) (
+      length-set (c .before .before .before .before .before .before .before .before .before .before .before .before .before .before .before .before .before .before .before .before .before .before .before .before .before .before .before .before .before .before .before .before .before .before .before .before .before .before .before .before .loop .notes) (c .before .before .before .before .before .before .before .before .before .before .before .before .before .before .before .before .before .before .before .before .before .before .before .before .before .before .before .before .before .before .before .before .before .before .before .before .before .before .before .before .loop .count) 0 ∙ c .before .before .before .before .before .before .before .before .before .before .before .before .before .before .before .before .before .before .before .before .before .before .before .before .before .before .before .before .before .before .before .before .before .before .before .before .before .before .before .before .loop .inv .0,
+      turn-on _ _ _ _ _ _ _ _ _ (c .before .before .before .before .before .before .before .before .before .before .before .before .before .before .before .before .before .before .before .before .before .before .before .before .before .before .before .before .before .before .before .before .before .before .before .before .before .before .before .before .loop .inv .1) (m .before .reach .given .0 .0) (reaches m) (q .decode .result) _ (m .before .before .before .before .before .before .before .before .before .before .before .before .before .before .before .before .before .market-of .ensures) (q .decode .ensures .0) (record { book = _; answer = 0 })
+          (rw (c .before .before .before .before .before .before .before .before .before .before .before .before .before .before .before .before .before .before .before .before .before .before .before .before .before .before .before .before .before .before .before .before .before .before .before .before .before .before .before .before .before .no-order .ensures)
+          (lands-step (state k) _ (c .before .before .before .before .before .before .before .before .before .before .before .before .before .before .before .before .before .before .before .before .before .before .before .before .before .before .before .before .before .before .before .before .hear .result) (c .before .before .before .before .before .before .before .before .before .before .before .before .before .before .before .before .before .before .before .before .before .before .before .before .before .before .before .before .before .before .seat-of .result) _ false _ _ (record { own = c .before .before .before .before .before .before .before .before .before .before .before .before .before .before .before .before .before .before .before .before .before .before .before .before .before .before .before .before .before .spot .ensures; lies = refl; counted = c .before .before .before .before .counted .ensures }) _ _ (c .before .before .before .before .before .before .mirror .ensures)
+          (λ w. lands-as-planned _ _ _ _ _ _ (k .planned .result .way) (c .before .before .before .before .before .before .before .before .before .before .before .before .before .before .before .deal-of .result) (sym (c .before .before .before .before .before .before .before .before .before .before .before .before .before .before .with-deal .ensures) ∙ c .before .before .before .before .before .before .before .before .before .before .before .before .enum-told4 .given .1) (plans k w))
+          (sym (c .before .before .before .before .before .before .before .before .before .before .before .before .before .before .before .deal-of .ensures) ∙ brings-nothing (k .planned .result .way) (c .before .before .before .before .before .before .before .before .before .before .before .before .before .before .before .deal-of .result) (sym (c .before .before .before .before .before .before .before .before .before .before .before .before .before .before .with-deal .ensures) ∙ c .before .before .before .before .before .before .before .before .before .before .before .before .enum-told4 .given .1)) refl)) (c .before .before .before .before .before .before .before .before .before .before .before .before .before .before .before .before .before .before .before .before .before .before .before .before .before .before .before .before .before .before .before .before .before .before .before .if1 .left),
+    )
+
+enum-told-5 : tie.Need-enum-told-5 Inv-loop μ-loop
+enum-told-5 c = search needs
+
+mul-orders-3 : tie.Need-mul-orders-3 Inv-loop μ-loop
+mul-orders-3 c = let n = c .before .before .before .before .before .before .planned .ensures .1 in omega (arith, n .0)
+
+array-set-from-orders-3 : tie.Need-array-set-from-orders-3 Inv-loop μ-loop
+array-set-from-orders-3 c = let n = c .before .before .before .before .before .before .planned .ensures .1 in omega (arith, n .0)
+
+mul-orders-4 : tie.Need-mul-orders-4 Inv-loop μ-loop
+mul-orders-4 c = let n = c .before .before .before .before .before .before .planned .ensures .1 in omega (arith, n .1)
+
+array-set-from-orders-4 : tie.Need-array-set-from-orders-4 Inv-loop μ-loop
+array-set-from-orders-4 c = let n = c .before .before .before .before .before .before .planned .ensures .1 in omega (arith, n .1)
+
+mirror-requires-2 : tie.Need-mirror-requires-2 Inv-loop μ-loop
+mirror-requires-2 c κs = search needs
 
 decided-requires : tie.Need-decided-requires Inv-loop μ-loop
 decided-requires c κs = search needs
@@ -204,68 +261,66 @@ spot-requires-3 : tie.Need-spot-requires-3 Inv-loop μ-loop
 spot-requires-3 c κs = search needs
 
 mul-lies : tie.Need-mul-lies Inv-loop μ-loop
-mul-lies c = omega (arith, c .spot3 .ensures, spot-within tradesEach (c .before .before .before .before .before .before .before .before .before .before .before .before .before .before .before .before .before .before .before .before .before .before .before .before .before .before .seat-of .result) (c .before .decided .result .place) (omega arith))
+mul-lies c = omega (arith, c .spot3 .ensures, spot-within tradesEach (c .before .before .before .before .before .before .before .before .before .before .before .before .before .before .before .before .before .before .before .before .before .before .before .before .before .before .before .seat-of .result) (c .before .decided .result .place) (omega arith))
 
 array-copy-out-lies : tie.Need-array-copy-out-lies Inv-loop μ-loop
-array-copy-out-lies c = omega (arith, c .spot3 .ensures, spot-within tradesEach (c .before .before .before .before .before .before .before .before .before .before .before .before .before .before .before .before .before .before .before .before .before .before .before .before .before .before .seat-of .result) (c .before .decided .result .place) (omega arith))
+array-copy-out-lies c = omega (arith, c .spot3 .ensures, spot-within tradesEach (c .before .before .before .before .before .before .before .before .before .before .before .before .before .before .before .before .before .before .before .before .before .before .before .before .before .before .before .seat-of .result) (c .before .decided .result .place) (omega arith))
 
 trade-or-requires : tie.Need-trade-or-requires Inv-loop μ-loop
 trade-or-requires c κs = search needs
 
 mul-trades : tie.Need-mul-trades Inv-loop μ-loop
-mul-trades c = omega (arith, c .before .before .before .spot3 .ensures, spot-within tradesEach (c .before .before .before .before .before .before .before .before .before .before .before .before .before .before .before .before .before .before .before .before .before .before .before .before .before .before .before .before .before .seat-of .result) (c .before .before .before .before .decided .result .place) (omega arith))
+mul-trades c = omega (arith, c .before .before .before .spot3 .ensures, spot-within tradesEach (c .before .before .before .before .before .before .before .before .before .before .before .before .before .before .before .before .before .before .before .before .before .before .before .before .before .before .before .before .before .before .seat-of .result) (c .before .before .before .before .decided .result .place) (omega arith))
 
 array-set-from-trades : tie.Need-array-set-from-trades Inv-loop μ-loop
-array-set-from-trades c = omega (arith, c .before .before .before .spot3 .ensures, spot-within tradesEach (c .before .before .before .before .before .before .before .before .before .before .before .before .before .before .before .before .before .before .before .before .before .before .before .before .before .before .before .before .before .seat-of .result) (c .before .before .before .before .decided .result .place) (omega arith))
+array-set-from-trades c = omega (arith, c .before .before .before .spot3 .ensures, spot-within tradesEach (c .before .before .before .before .before .before .before .before .before .before .before .before .before .before .before .before .before .before .before .before .before .before .before .before .before .before .before .before .before .before .seat-of .result) (c .before .before .before .before .decided .result .place) (omega arith))
 
 ticket-of-requires : tie.Need-ticket-of-requires Inv-loop μ-loop
 ticket-of-requires c κs = search needs
 
 mul-tickets : tie.Need-mul-tickets Inv-loop μ-loop
-mul-tickets c = omega (arith, c .before .before .before .before .spot3 .ensures, spot-within tradesEach (c .before .before .before .before .before .before .before .before .before .before .before .before .before .before .before .before .before .before .before .before .before .before .before .before .before .before .before .before .before .before .seat-of .result) (c .before .before .before .before .before .decided .result .place) (omega arith))
+mul-tickets c = omega (arith, c .before .before .before .before .spot3 .ensures, spot-within tradesEach (c .before .before .before .before .before .before .before .before .before .before .before .before .before .before .before .before .before .before .before .before .before .before .before .before .before .before .before .before .before .before .before .seat-of .result) (c .before .before .before .before .before .decided .result .place) (omega arith))
 
 array-write-tickets : tie.Need-array-write-tickets Inv-loop μ-loop
-array-write-tickets c = omega (arith, c .before .before .before .before .spot3 .ensures, spot-within tradesEach (c .before .before .before .before .before .before .before .before .before .before .before .before .before .before .before .before .before .before .before .before .before .before .before .before .before .before .before .before .before .before .seat-of .result) (c .before .before .before .before .before .decided .result .place) (omega arith))
+array-write-tickets c = omega (arith, c .before .before .before .before .spot3 .ensures, spot-within tradesEach (c .before .before .before .before .before .before .before .before .before .before .before .before .before .before .before .before .before .before .before .before .before .before .before .before .before .before .before .before .before .before .before .seat-of .result) (c .before .before .before .before .before .decided .result .place) (omega arith))
 
-counted-requires : tie.Need-counted-requires Inv-loop μ-loop
-counted-requires c κs = search needs
+mul-q-2 : tie.Need-mul-q-2 Inv-loop μ-loop
+mul-q-2 c = omega (arith, c .before .before .before .before .before .before .before .before .before .before .before .before .before .before .before .before .before .before .before .before .before .before .before .before .before .before .before .before .before .before .spot .ensures, spot-within 1 (c .before .before .before .before .before .before .before .before .before .before .before .before .before .before .before .before .before .before .before .before .before .before .before .before .before .before .before .before .before .before .before .seat-of .result) 0 (omega arith))
 
-mul-places : tie.Need-mul-places Inv-loop μ-loop
-mul-places c = omega (arith, c .before .before .before .before .before .before .before .before .before .before .before .before .before .before .before .before .before .before .before .before .before .before .before .before .before .before .before .before .before .before .spot .ensures, spot-within 1 (c .before .before .before .before .before .before .before .before .before .before .before .before .before .before .before .before .before .before .before .before .before .before .before .before .before .before .before .before .before .before .before .seat-of .result) 0 (omega arith))
+array-copy-out-q-2 : tie.Need-array-copy-out-q-2 Inv-loop μ-loop
+array-copy-out-q-2 c = omega (arith, c .before .before .before .before .before .before .before .before .before .before .before .before .before .before .before .before .before .before .before .before .before .before .before .before .before .before .before .before .before .before .spot .ensures, spot-within 1 (c .before .before .before .before .before .before .before .before .before .before .before .before .before .before .before .before .before .before .before .before .before .before .before .before .before .before .before .before .before .before .before .seat-of .result) 0 (omega arith))
 
-array-set-from-places : tie.Need-array-set-from-places Inv-loop μ-loop
-array-set-from-places c = omega (arith, c .before .before .before .before .before .before .before .before .before .before .before .before .before .before .before .before .before .before .before .before .before .before .before .before .before .before .before .before .before .before .spot .ensures, spot-within 1 (c .before .before .before .before .before .before .before .before .before .before .before .before .before .before .before .before .before .before .before .before .before .before .before .before .before .before .before .before .before .before .before .seat-of .result) 0 (omega arith))
+counted-requires-2 : tie.Need-counted-requires-2 Inv-loop μ-loop
+counted-requires-2 c κs = search needs
 
-note-requires-2 : tie.Need-note-requires-2 Inv-loop μ-loop
-note-requires-2 c κs = search needs
+mul-places-2 : tie.Need-mul-places-2 Inv-loop μ-loop
+mul-places-2 c = omega (arith, c .before .before .before .before .before .before .before .before .before .before .before .before .before .before .before .before .before .before .before .before .before .before .before .before .before .before .before .before .before .before .before .before .spot .ensures, spot-within 1 (c .before .before .before .before .before .before .before .before .before .before .before .before .before .before .before .before .before .before .before .before .before .before .before .before .before .before .before .before .before .before .before .before .before .seat-of .result) 0 (omega arith))
 
-loop-less-2 : tie.Need-loop-less-2 Inv-loop μ-loop
-loop-less-2 c = let m = c .before .before .before .before .before .before .before .before .before .before .before .before .before .before .before .before .before .before .before .before .before .before .before .before .before .before .before .before .before .before .before .before .before .before .before .before .before .before .before .before .before in turn-less _ _ _ _ _ _ _ _ _ (m .before .before .before .before .loop .inv .1) (m .before .reach .given .0 .0) (reaches m)
+array-set-from-places-2 : tie.Need-array-set-from-places-2 Inv-loop μ-loop
+array-set-from-places-2 c = omega (arith, c .before .before .before .before .before .before .before .before .before .before .before .before .before .before .before .before .before .before .before .before .before .before .before .before .before .before .before .before .before .before .before .before .spot .ensures, spot-within 1 (c .before .before .before .before .before .before .before .before .before .before .before .before .before .before .before .before .before .before .before .before .before .before .before .before .before .before .before .before .before .before .before .before .before .seat-of .result) 0 (omega arith))
 
-loop-again-2 : tie.Need-loop-again-2 Inv-loop μ-loop
-loop-again-2 c =
-    let k = c .before .before .before .before .before .before .before .before .before .before .before .before .before .before .before .before .before .before .before .before .before in
-    let m = c .before .before .before .before .before .before .before .before .before .before .before .before .before .before .before .before .before .before .before .before .before .before .before .before .before .before .before .before .before .before .before .before .before .before .before .before .before .before .before .before .before in
-    let q = c .before .before .before .before .before .before .before .before .before .before .before .before .before .before .before .before .before .before .before .before .before .before .before .before .before .before .before .before .before .before .before .before .before .before .before .before .before .before in
-    rw (c .before .before .note2 .ensures) (
-      length-set (c .before .before .before .before .before .before .before .before .before .before .before .before .before .before .before .before .before .before .before .before .before .before .before .before .before .before .before .before .before .before .before .before .before .before .before .before .before .before .before .before .before .before .before .before .before .loop .notes) (c .before .before .before .before .before .before .before .before .before .before .before .before .before .before .before .before .before .before .before .before .before .before .before .before .before .before .before .before .before .before .before .before .before .before .before .before .before .before .before .before .before .before .before .before .before .loop .count) 0 ∙ c .before .before .before .before .before .before .before .before .before .before .before .before .before .before .before .before .before .before .before .before .before .before .before .before .before .before .before .before .before .before .before .before .before .before .before .before .before .before .before .before .before .before .before .before .before .loop .inv .0,
-      turn-on _ _ _ _ _ _ _ _ _ (c .before .before .before .before .before .before .before .before .before .before .before .before .before .before .before .before .before .before .before .before .before .before .before .before .before .before .before .before .before .before .before .before .before .before .before .before .before .before .before .before .before .before .before .before .before .loop .inv .1) (m .before .reach .given .0 .0) (reaches m) (q .decode .result) _ (m .before .before .before .before .before .before .before .before .before .before .before .before .before .before .before .before .before .market-of .ensures) (q .decode .ensures .0) (record { book = _; answer = 0 })
-          (rw (c .before .before .before .before .before .before .before .before .before .before .before .before .before .before .before .before .before .before .before .before .before .before .before .before .before .before .before .before .before .before .before .before .before .before .before .before .before .before .before .before .before .before .before .before .before .before .no-order .ensures)
-          (stores-step (state k) _ (c .before .before .before .before .before .before .before .before .before .before .before .before .before .before .before .before .before .before .before .before .before .before .before .before .before .before .before .before .before .before .before .before .before .before .before .before .before .hear .result) (c .before .before .before .before .before .before .before .before .before .before .before .before .before .before .before .before .before .before .before .before .before .before .before .before .before .before .before .before .before .before .before .before .before .before .before .seat-of .result) (c .before .before .before .before .before .before .before .before .before .before .decided .result) _ _ _ _ _ _
-          (record {
-            decides = λ g s w. rw (c .before .before .before .before .before .before .before .before .before .before .before .deal-of .ensures) at (c .before .before .before .before .before .before .before .before .before .before .decided .ensures .0 _ g s w);
-            slot = c .before .before .before .before .before .before .before .before .before .spot3 .ensures;
-            trade = c .before .before .before .before .before .before .trade-or .ensures;
-            ticket = c .before .before .before .before .before .ticket-of .ensures;
-            own = c .before .before .before .before .before .before .before .before .before .before .before .before .before .before .before .before .before .before .before .before .before .before .before .before .before .before .before .before .before .before .before .before .before .before .spot .ensures;
-            lies = refl;
-            counted = c .before .before .before .before .counted .ensures;
-          })
-          _ _ (c .before .before .before .before .before .before .before .before .before .before .before .before .before .mirror .ensures) (λ w. rw (c .before .before .before .before .before .before .before .before .before .before .before .before .before .before .before .before .before .before .before .enum-told4 .given .1) at (plans k w)))) (c .before .before .before .before .before .before .before .before .before .before .before .before .before .before .before .before .before .before .before .before .before .before .before .before .before .before .before .before .before .before .before .before .before .before .before .before .before .before .before .before .if1 .left),
+note-requires-3 : tie.Need-note-requires-3 Inv-loop μ-loop
+note-requires-3 c κs = search needs
+
+loop-less-3 : tie.Need-loop-less-3 Inv-loop μ-loop
+loop-less-3 c = let m = c .before .before .before .before .before .before .before .before .before .before .before .before .before .before .before .before .before .before .before .before .before .before .before .before .before .before .before .before .before .before .before .before .before .before .before .before .before .before .before .before .before .before .before in turn-less _ _ _ _ _ _ _ _ _ (m .before .before .before .before .loop .inv .1) (m .before .reach .given .0 .0) (reaches m)
+
+loop-again-3 : tie.Need-loop-again-3 Inv-loop μ-loop
+loop-again-3 c =
+    let k = c .before .before .before .before .before .before .before .before .before .before .before .before .before .before .before .before .before .before .before .before .before .before .before in
+    let m = c .before .before .before .before .before .before .before .before .before .before .before .before .before .before .before .before .before .before .before .before .before .before .before .before .before .before .before .before .before .before .before .before .before .before .before .before .before .before .before .before .before .before .before in
+    let q = c .before .before .before .before .before .before .before .before .before .before .before .before .before .before .before .before .before .before .before .before .before .before .before .before .before .before .before .before .before .before .before .before .before .before .before .before .before .before .before .before in
+    rw (c .before .before .note3 .ensures) (
+      length-set (c .before .before .before .before .before .before .before .before .before .before .before .before .before .before .before .before .before .before .before .before .before .before .before .before .before .before .before .before .before .before .before .before .before .before .before .before .before .before .before .before .before .before .before .before .before .before .before .loop .notes) (c .before .before .before .before .before .before .before .before .before .before .before .before .before .before .before .before .before .before .before .before .before .before .before .before .before .before .before .before .before .before .before .before .before .before .before .before .before .before .before .before .before .before .before .before .before .before .before .loop .count) 0 ∙ c .before .before .before .before .before .before .before .before .before .before .before .before .before .before .before .before .before .before .before .before .before .before .before .before .before .before .before .before .before .before .before .before .before .before .before .before .before .before .before .before .before .before .before .before .before .before .before .loop .inv .0,
+      turn-on _ _ _ _ _ _ _ _ _ (c .before .before .before .before .before .before .before .before .before .before .before .before .before .before .before .before .before .before .before .before .before .before .before .before .before .before .before .before .before .before .before .before .before .before .before .before .before .before .before .before .before .before .before .before .before .before .before .loop .inv .1) (m .before .reach .given .0 .0) (reaches m) (q .decode .result) _ (m .before .before .before .before .before .before .before .before .before .before .before .before .before .before .before .before .before .market-of .ensures) (q .decode .ensures .0) (record { book = _; answer = 0 })
+          (rw (c .before .before .before .before .before .before .before .before .before .before .before .before .before .before .before .before .before .before .before .before .before .before .before .before .before .before .before .before .before .before .before .before .before .before .before .before .before .before .before .before .before .before .before .before .before .before .before .before .no-order .ensures)
+          (stores-step (state k) _ (c .before .before .before .before .before .before .before .before .before .before .before .before .before .before .before .before .before .before .before .before .before .before .before .before .before .before .before .before .before .before .before .before .before .before .before .before .before .before .before .hear .result) (c .before .before .before .before .before .before .before .before .before .before .before .before .before .before .before .before .before .before .before .before .before .before .before .before .before .before .before .before .before .before .before .before .before .before .before .before .before .seat-of .result) _ (c .before .before .before .before .before .before .before .before .before .before .before .decided .result .lost) _ _ (record { own = c .before .before .before .before .before .before .before .before .before .before .before .before .before .before .before .before .before .before .before .before .before .before .before .before .before .before .before .before .before .before .before .before .before .before .before .before .spot .ensures; lies = refl; counted = c .before .before .before .before .counted2 .ensures }) _ _ (c .before .before .before .before .before .before .before .before .before .before .before .before .before .mirror2 .ensures)
+          (λ w. deals-as-planned _ _ _ _ _ _ (k .planned .result .way) (c .before .before .before .before .before .before .before .before .before .before .before .before .before .before .before .before .before .before .before .before .before .before .deal-of .result) (sym (c .before .before .before .before .before .before .before .before .before .before .before .before .before .before .before .before .before .before .before .before .before .with-deal .ensures) ∙ c .before .before .before .before .before .before .before .before .before .before .before .before .before .before .before .before .before .before .before .enum-told5 .given .1) (plans k w))
+          (c .before .before .before .before .before .before .before .before .before .before .before .decided .result) _ _ _ refl (λ g s w. rw (c .before .before .before .before .before .before .before .before .before .before .before .before .before .before .before .before .before .before .before .before .before .before .deal-of .ensures) at (c .before .before .before .before .before .before .before .before .before .before .before .decided .ensures .0 _ g s w)) (c .before .before .before .before .before .before .before .before .before .before .spot3 .ensures) (c .before .before .before .before .before .before .before .trade-or .ensures) (c .before .before .before .before .before .before .ticket-of .ensures))) (c .before .before .before .before .before .before .before .before .before .before .before .before .before .before .before .before .before .before .before .before .before .before .before .before .before .before .before .before .before .before .before .before .before .before .before .before .before .before .before .before .before .before .if1 .left),
     )
 
-enum-told-5 : tie.Need-enum-told-5 Inv-loop μ-loop
-enum-told-5 c = search needs
+enum-told-6 : tie.Need-enum-told-6 Inv-loop μ-loop
+enum-told-6 c = search needs
 
 book-of-requires-4 : tie.Need-book-of-requires-4 Inv-loop μ-loop
 book-of-requires-4 c κs = search needs
@@ -273,21 +328,21 @@ book-of-requires-4 c κs = search needs
 step-requires : tie.Need-step-requires Inv-loop μ-loop
 step-requires c κs = search needs
 
-note-requires-3 : tie.Need-note-requires-3 Inv-loop μ-loop
-note-requires-3 c κs = search needs
+note-requires-4 : tie.Need-note-requires-4 Inv-loop μ-loop
+note-requires-4 c κs = search needs
 
-loop-less-3 : tie.Need-loop-less-3 Inv-loop μ-loop
-loop-less-3 c = let m = c .before .before .before .before .before .before .before .before .before .before .before .before .before .before .before .before .before .before .before .before .before .before .before .before .before .before .before .before .before .before .before .before .before .before .before .before .before .before .before .before in turn-less _ _ _ _ _ _ _ _ _ (m .before .before .before .before .loop .inv .1) (m .before .reach .given .0 .0) (reaches m)
+loop-less-4 : tie.Need-loop-less-4 Inv-loop μ-loop
+loop-less-4 c = let m = c .before .before .before .before .before .before .before .before .before .before .before .before .before .before .before .before .before .before .before .before .before .before .before .before .before .before .before .before .before .before .before .before .before .before .before .before .before .before .before .before .before .before in turn-less _ _ _ _ _ _ _ _ _ (m .before .before .before .before .loop .inv .1) (m .before .reach .given .0 .0) (reaches m)
 
-loop-again-3 : tie.Need-loop-again-3 Inv-loop μ-loop
-loop-again-3 c =
-    let k = c .before .before .before .before .before .before .before .before .before .before .before .before .before .before .before .before .before .before .before .before in
-    let m = c .before .before .before .before .before .before .before .before .before .before .before .before .before .before .before .before .before .before .before .before .before .before .before .before .before .before .before .before .before .before .before .before .before .before .before .before .before .before .before .before in
-    let q = c .before .before .before .before .before .before .before .before .before .before .before .before .before .before .before .before .before .before .before .before .before .before .before .before .before .before .before .before .before .before .before .before .before .before .before .before .before in
-    rw (c .before .before .note3 .ensures) (
-      length-set (c .before .before .before .before .before .before .before .before .before .before .before .before .before .before .before .before .before .before .before .before .before .before .before .before .before .before .before .before .before .before .before .before .before .before .before .before .before .before .before .before .before .before .before .before .loop .notes) (c .before .before .before .before .before .before .before .before .before .before .before .before .before .before .before .before .before .before .before .before .before .before .before .before .before .before .before .before .before .before .before .before .before .before .before .before .before .before .before .before .before .before .before .before .loop .count) (c .before .before .before .before .before .before .before .before .before .before .before .before .before .before .before .before .step .result .answer) ∙ c .before .before .before .before .before .before .before .before .before .before .before .before .before .before .before .before .before .before .before .before .before .before .before .before .before .before .before .before .before .before .before .before .before .before .before .before .before .before .before .before .before .before .before .before .loop .inv .0,
-      turn-on _ _ _ _ _ _ _ _ _ (c .before .before .before .before .before .before .before .before .before .before .before .before .before .before .before .before .before .before .before .before .before .before .before .before .before .before .before .before .before .before .before .before .before .before .before .before .before .before .before .before .before .before .before .before .loop .inv .1) (m .before .reach .given .0 .0) (reaches m) (q .decode .result) _ (m .before .before .before .before .before .before .before .before .before .before .before .before .before .before .before .before .before .market-of .ensures) (q .decode .ensures .0) (record { book = _; answer = _ })
-          (rw (c .before .before .before .before .before .before .before .before .before .before .before .before .before .before .before .before .before .book-of4 .ensures) at (c .before .before .before .before .before .before .before .before .before .before .before .before .before .before .before .before .step .ensures .0)) (c .before .before .before .before .before .before .before .before .before .before .before .before .before .before .before .before .before .before .before .before .before .before .before .before .before .before .before .before .before .before .before .before .before .before .before .before .before .before .before .if1 .left),
+loop-again-4 : tie.Need-loop-again-4 Inv-loop μ-loop
+loop-again-4 c =
+    let k = c .before .before .before .before .before .before .before .before .before .before .before .before .before .before .before .before .before .before .before .before .before .before in
+    let m = c .before .before .before .before .before .before .before .before .before .before .before .before .before .before .before .before .before .before .before .before .before .before .before .before .before .before .before .before .before .before .before .before .before .before .before .before .before .before .before .before .before .before in
+    let q = c .before .before .before .before .before .before .before .before .before .before .before .before .before .before .before .before .before .before .before .before .before .before .before .before .before .before .before .before .before .before .before .before .before .before .before .before .before .before .before in
+    rw (c .before .before .note4 .ensures) (
+      length-set (c .before .before .before .before .before .before .before .before .before .before .before .before .before .before .before .before .before .before .before .before .before .before .before .before .before .before .before .before .before .before .before .before .before .before .before .before .before .before .before .before .before .before .before .before .before .before .loop .notes) (c .before .before .before .before .before .before .before .before .before .before .before .before .before .before .before .before .before .before .before .before .before .before .before .before .before .before .before .before .before .before .before .before .before .before .before .before .before .before .before .before .before .before .before .before .before .before .loop .count) (c .before .before .before .before .before .before .before .before .before .before .before .before .before .before .before .before .step .result .answer) ∙ c .before .before .before .before .before .before .before .before .before .before .before .before .before .before .before .before .before .before .before .before .before .before .before .before .before .before .before .before .before .before .before .before .before .before .before .before .before .before .before .before .before .before .before .before .before .before .loop .inv .0,
+      turn-on _ _ _ _ _ _ _ _ _ (c .before .before .before .before .before .before .before .before .before .before .before .before .before .before .before .before .before .before .before .before .before .before .before .before .before .before .before .before .before .before .before .before .before .before .before .before .before .before .before .before .before .before .before .before .before .before .loop .inv .1) (m .before .reach .given .0 .0) (reaches m) (q .decode .result) _ (m .before .before .before .before .before .before .before .before .before .before .before .before .before .before .before .before .before .market-of .ensures) (q .decode .ensures .0) (record { book = _; answer = _ })
+          (rw (c .before .before .before .before .before .before .before .before .before .before .before .before .before .before .before .before .before .book-of4 .ensures) at (c .before .before .before .before .before .before .before .before .before .before .before .before .before .before .before .before .step .ensures .0)) (c .before .before .before .before .before .before .before .before .before .before .before .before .before .before .before .before .before .before .before .before .before .before .before .before .before .before .before .before .before .before .before .before .before .before .before .before .before .before .before .before .before .if1 .left),
     )
 
 pub going-spec : {M : Type 1} → statement M
@@ -333,6 +388,8 @@ going-spec =
     mul-x
     array-copy-out-x
     planned-requires
+    deal-of-requires
+    with-deal-requires
     enum-told-3
     note-requires
     loop-less
@@ -343,7 +400,20 @@ going-spec =
     mul-orders-2
     array-set-from-orders-2
     mirror-requires
-    deal-of-requires
+    mul-q
+    array-copy-out-q
+    counted-requires
+    mul-places
+    array-set-from-places
+    note-requires-2
+    loop-less-2
+    loop-again-2
+    enum-told-5
+    mul-orders-3
+    array-set-from-orders-3
+    mul-orders-4
+    array-set-from-orders-4
+    mirror-requires-2
     decided-requires
     spot-requires-3
     mul-lies
@@ -354,15 +424,17 @@ going-spec =
     ticket-of-requires
     mul-tickets
     array-write-tickets
-    counted-requires
-    mul-places
-    array-set-from-places
-    note-requires-2
-    loop-less-2
-    loop-again-2
-    enum-told-5
-    book-of-requires-4
-    step-requires
+    mul-q-2
+    array-copy-out-q-2
+    counted-requires-2
+    mul-places-2
+    array-set-from-places-2
     note-requires-3
     loop-less-3
-    loop-again-3)
+    loop-again-3
+    enum-told-6
+    book-of-requires-4
+    step-requires
+    note-requires-4
+    loop-less-4
+    loop-again-4)
