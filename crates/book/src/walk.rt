@@ -227,9 +227,9 @@ impl Book {
                             let l = plan.landing;
                             let emptied = l.emptied;
                             let filled = l.filled;
-                            let order = l.order;
+                            let laid = l.order;
                             orders[emptied] = none;
-                            orders[filled] = order;
+                            orders[filled] = laid;
                             mirror(
                                 &mut numbers,
                                 &mut lives,
@@ -237,7 +237,7 @@ impl Book {
                                 k,
                                 l.gone,
                                 l.place,
-                                order,
+                                laid,
                             );
                             let r = decided(&tickets, k, deal);
                             let slot = spot(k, record::EACH, r.place);
