@@ -152,6 +152,13 @@ fn parts(cases: &mut Cases) {
         "a-message-of-65535-bytes-cut-by-one",
         [unknown(4), unknown(65_535)[..65_534].to_vec()].concat(),
     );
+    // A part holds 16,384 messages of four bytes, and their refusals have more bytes than a part.
+    for before in [4_095, 4_096, 4_097, 8_192, 16_383, 16_384, 20_000] {
+        cases.feed_bytes(
+            &format!("{before}-small-messages-before-a-good-one"),
+            [unknown(4).repeat(before), one_add(), feed(&[delete(2, 1)])].concat(),
+        );
+    }
     let mut many = adds(64);
     for number in 65..=4000 {
         let order = u64::from(number % 64) + 1;
