@@ -11,7 +11,7 @@ use Rattle.wire.proofs.Cases.{reached, reach-size, own-size}
 use Rattle.book.specs.Walk.{CompleteMessage, AllComplete, walkBy, walkFor, walkOf}
 
 -- the bytes that a message reaches over, alone
-complete-part : (s : List ℕ) (n : ℕ) → reachOf s ≡ done n → CompleteMessage (take n s)
+pub complete-part : (s : List ℕ) (n : ℕ) → reachOf s ≡ done n → CompleteMessage (take n s)
 complete-part s n e =
     let r = reached s n e in
     let long : length (take n s) ≡ n = length-take-le n s (r .there) in

@@ -14,3 +14,4 @@ pub mod TwoMarkets
 pub mod Unfaithful
 pub mod EveryNumber
 pub mod Lent
+pub mod Noted

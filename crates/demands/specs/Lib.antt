@@ -7,3 +7,4 @@ pub mod OneOutcome
 pub mod Messages
 pub mod Examples
 pub mod Lent
+pub mod Noted
