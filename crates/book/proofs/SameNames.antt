@@ -11,7 +11,6 @@ use Rattle.wire.specs.Outcome.{Outcome, done, refused}
 use Rattle.wire.specs.Reading.{Read, readOf}
 use Rattle.wire.specs.declared.Message.{Message}
 use Rattle.symbols.specs.Registering.{toldOf}
-use Rattle.symbols.specs.declared.registering.Listing.{Listing}
 use Rattle.book.specs.State.{Symbol, View, entryOf, symbolIn}
 use Rattle.book.specs.Registering.{toldIn}
 use Rattle.book.specs.Step.{meeting, actOn, meant, stepOn, stepOf}

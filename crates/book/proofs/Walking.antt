@@ -7,7 +7,7 @@ use native.Mathlib.Omega.{arith}
 use native.Mathlib.Nat.{add-zero, zero-add, add-suc, suc-add, add-sub-cancel-left}
 use lib.ListN.{length, take, drop, set, length-append, length-drop}
 use lib.Seq.{append-snoc, drop-drop, drop-set-lt, sets}
-use Rattle.wire.specs.Outcome.{Outcome, done, refused, numberOf}
+use Rattle.wire.specs.Outcome.{Outcome, done, refused}
 use Rattle.wire.specs.Reading.{Read, reachOf, readOf, decodedAs}
 use Rattle.wire.specs.declared.Decoded.{Decoded}
 use Rattle.wire.proofs.Cases.{reached}

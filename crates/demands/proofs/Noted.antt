@@ -1,5 +1,5 @@
 -- A run that notes answers is a run over the messages that it passed, laid end to end.
-use mathlib.Core.List.{List, [], _∷_, _++_, append-nil, flatten}
+use mathlib.Core.List.{List, [], _++_, append-nil, flatten}
 use mathlib.Core.Path.{_≡_, refl, sym, ap, _∙_}
 use Prim.Native.Nat.{ℕ, zero, suc, _+_}
 use native.Mathlib.Nat.{add-zero}

@@ -21,7 +21,7 @@ use Rattle.book.specs.declared.walk.Noted.{Noted}
 use Rattle.book.proofs.Walking.{length-answers, answers-join}
 use Rattle.columns.specs.Held.{room}
 use Rattle.page.specs.Printing.{lastSecond}
-use Rattle.page.specs.Laying.{layFrom, layOf, Lays, Tells, Answered, sheetOf, LaysNoted, RunsSome}
+use Rattle.page.specs.Laying.{layFrom, Lays, Tells, Answered, sheetOf, LaysNoted, RunsSome}
 use Rattle.page.specs.declared.laying.Texts.{Texts}
 use Rattle.page.proofs.Sheets.{Rest, front-on, rest-stops, rest-full}
 use Rattle.page.proofs.NotedTexts.{passes-on, passes-far, passes-within}

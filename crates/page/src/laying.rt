@@ -1,7 +1,6 @@
 // Laying what is printed into a lent buffer: the texts of the messages of a stream one behind the other, and the end.
 use crate::Printed;
 use crate::printing::LAST_SECOND;
-use crate::printing::append;
 use crate::printing::emit;
 use crate::texts::end_lines;
 use crate::texts::lay_passed;

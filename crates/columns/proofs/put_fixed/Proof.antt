@@ -1,6 +1,5 @@
 -- At every turn the line has what stands before the last i digits (`fixed-next`), so i falls.
 use Prim.Native.Nat.{_≤_, _-_, _/_, _^_}
-use native.Mathlib.Omega.{arith}
 use borrow.Author.Needs.{needs}
 use Rattle.columns.specs.Text.{fixed}
 use Rattle.columns.proofs.Holding.{Grown, not-grown, grown-stays, grown-stored}

@@ -11,7 +11,7 @@ use Rattle.places.proofs.Landing.{spot-within}
 use Rattle.symbols.specs.State.{nowhere}
 use Rattle.orders.specs.State.{ordersEach, noOrder}
 use Rattle.orders.proofs.Finding.{searchable}
-use Rattle.record.specs.State.{tradesEach, noTrade}
+use Rattle.record.specs.State.{tradesEach}
 use Rattle.book.specs.State.{Wf}
 use Rattle.book.specs.Planning.{bookOf, Plans}
 use Rattle.book.specs.declared.Book.{Book}

@@ -1,8 +1,7 @@
 -- What is left of the laying comes to all of it (`Rest`): each batch is run and laid, and it ends where the walk stops or the buffer is full.
 use mathlib.Core.Path.{_≡_, refl, sym, ap, _∙_}
-use Prim.Native.Nat.{ℕ, _≤_, _<_, _-_}
+use Prim.Native.Nat.{_-_}
 use native.Mathlib.Omega.{arith}
-use denote.Ref.{now}
 use lib.ListN.{length}
 use Rattle.symbols.specs.State.{itself, foundIn, entries}
 use Rattle.symbols.specs.Registering.{toldOf}

@@ -1,15 +1,15 @@
 -- As far as it went, laying goes on behind it as from the start (`SoFar`).
 use mathlib.Core.Path.{_≡_, refl, sym, ap, _∙_}
-use Prim.Native.Nat.{ℕ, _+_, _-_, _<_, _≤_}
+use Prim.Native.Nat.{_+_, _-_, _≤_}
 use native.Mathlib.Nat.{add-sub-cancel-left}
 use native.Mathlib.Omega.{arith}
 use denote.Ref.{now}
-use lib.ListN.{length, take, drop, getD}
-use Rattle.wire.specs.Outcome.{Outcome, done, refused}
+use lib.ListN.{length, drop}
+use Rattle.wire.specs.Outcome.{done}
 use Rattle.wire.specs.Reading.{reachOf}
 use Rattle.book.proofs.Walking.{move-within}
 use Rattle.wire.proofs.Cases.{reached}
-use Rattle.page.specs.Laying.{sizeOr0, SoFar, LaysOne}
+use Rattle.page.specs.Laying.{SoFar}
 use Rattle.page.proofs.NotedTexts.{so-far-none, so-far-more, sized, unsized}
 use borrow.Author.Needs.{needs}
 use Rattle.page.proofs.laying.lay_noted.Statement.{statement}
