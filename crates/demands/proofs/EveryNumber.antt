@@ -91,7 +91,7 @@ unfolding listed value littleEndian shapeOf firstBad faultOf faultIn reachBy rea
 by-wire = record { reach-0 = refl; reach-1 = refl; reach-2 = refl; read-1 = refl; read-2 = refl; read-3 = refl; read-4 = refl; read-4-at = refl; read-4-first = refl; read-4-condition = refl; read-4-condition-at = refl; read-4-zero-at = refl; read-4-letter-at = refl; read-0-texas = refl; test-0-condition = refl; test-4-condition = refl; write-4-condition = refl; write-4-condition-at = refl; write-0-condition = refl; test-0 = refl; test-4 = refl; write-0 = refl; write-4 = refl; write-4-at = refl; write-15 = refl }
 
 -- ---- registering, and a quote
-abbrev gap : List ℕ
+abbrev pub gap : List ℕ
 gap = add 2 1001 buy 1234500 200
 
 -- so many symbols registered

@@ -1,5 +1,5 @@
 -- A run that notes answers is a run over the messages that it passed, laid end to end.
-use mathlib.Core.List.{List, [], _++_, append-nil, flatten}
+use mathlib.Core.List.{List, [], _∷_, _++_, append-nil, flatten}
 use mathlib.Core.Path.{_≡_, refl, sym, ap, _∙_}
 use Prim.Native.Nat.{ℕ, zero, suc, _+_}
 use native.Mathlib.Nat.{add-zero}
@@ -7,10 +7,22 @@ use native.Mathlib.Omega.{arith}
 use lib.ListN.{length, take, drop, length-append}
 use lib.Seq.{length-take-le}
 use Rattle.wire.specs.Outcome.{Outcome, done, refused}
-use Rattle.wire.specs.Reading.{reachOf}
+use Rattle.wire.specs.Bytes.{value, littleEndian}
+use Rattle.wire.specs.Table.{shapeOf}
+use Rattle.wire.specs.Fields.{firstBad, faultOf}
+use Rattle.wire.specs.Reading.{reachBy, reachOf, readBy, readBody, readSized, readShape, readTyped, readReached, readOf}
+use Rattle.markets.specs.declared.Market.{Market}
+use Rattle.feed.specs.Reader.{ruled}
+use Rattle.places.specs.Places.{firstWhere, insert, remove, look}
+use Rattle.symbols.specs.State.{placeOf, foundIn, vacancyOf}
+use Rattle.symbols.specs.Registering as registering
+use Rattle.symbols.specs.Registering.{nameBad}
+use Rattle.orders.specs.Rules.{applyTo}
+use Rattle.record.specs.Rules.{dealTo}
+use Rattle.book.specs.Step.{enacted, meeting, actOn, meant, stepOf}
 use Rattle.wire.proofs.Cases.{reached}
 use Rattle.book.specs.State.{view}
-use Rattle.book.specs.Walk.{AllComplete, Walk, walkBy, walkUpTo, walkOf, stepsOf, runOf, Runs, Notes}
+use Rattle.book.specs.Walk.{AllComplete, Walk, walkBy, walkUpTo, walkOf, stepsOf, answersOf, runOf, Runs, Notes}
 use Rattle.book.specs.Reached.{ran}
 use Rattle.book.specs.declared.Book.{Book}
 use Rattle.book.specs.declared.walk.Noted.{Noted}
@@ -19,6 +31,8 @@ use Rattle.book.proofs.Streams.{complete-part}
 use Rattle.parts.proofs.Walks.{walk-behind}
 use Rattle.book.proofs.Reaching.{reached-wf}
 use Rattle.demands.specs.Noted.{NotedReached, OneNoted}
+use Rattle.demands.specs.Examples.{viewABC}
+use Rattle.demands.proofs.EveryNumber.{gap}
 
 -- ---- what is passed is complete messages, and the position is behind them
 passed-complete : (f : ℕ) (s : List ℕ) (at : ℕ) → AllComplete (walkUpTo f s at .messages)
@@ -74,3 +88,19 @@ one-noted = record {
       let g = n .obeys (reached-wf p) in
       (m .answer ∙ sym (n .answer), m .at ∙ sym (n .at), m .count ∙ sym (n .count), f .next-view ∙ sym (g .next-view), f .noted ∙ sym (g .noted));
 }
+
+-- ---- by computation: one note and two messages, two notes and two messages; and each note is the answer of the view before its message
+abbrev two : List ℕ
+two = gap ++ gap
+
+pub one-note : walkUpTo 1 two 0 ≡ record { messages = gap ∷ []; at = length gap; answer = 15 }
+unfolding walkUpTo value littleEndian reachBy reachOf
+one-note = refl
+
+pub two-notes : walkUpTo 2 two 0 ≡ record { messages = gap ∷ gap ∷ []; at = length two; answer = 1 }
+unfolding walkUpTo value littleEndian reachBy reachOf
+two-notes = refl
+
+pub gap-then-stale : answersOf (viewABC Market.Nyse) (gap ∷ gap ∷ []) ≡ 7 ∷ 8 ∷ []
+unfolding answersOf value littleEndian shapeOf firstBad faultOf reachBy reachOf readBy readBody readSized readShape readTyped readReached readOf firstWhere insert remove look placeOf foundIn vacancyOf applyTo dealTo nameBad registering.registered ruled enacted meeting actOn meant stepOf
+gap-then-stale = refl
