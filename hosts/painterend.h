@@ -41,7 +41,7 @@ extern "C" {
 #endif
 
 /* How large a book is. The number stands here alone; a host compiled with another one is to be compiled anew. */
-#define PAINTEREND_BOOK_BYTES 42952
+#define PAINTEREND_BOOK_BYTES 96712
 
 #if PAINTEREND_BOOK_BYTES % 8 != 0
 #error "a book is made of whole words of 8 bytes"
@@ -65,7 +65,7 @@ typedef struct {
  *    7  a number was skipped, so something was lost: the symbol is stale from here on
  *    8  the symbol is stale: neither messages nor quotes until a clear
  *    9  the message doesn't fit the book: the symbol is stale from here on
- *   10  the symbol has no room for one more order (64 are live): it is stale from here on
+ *   10  the symbol has no room for one more order (256 are live): it is stale from here on
  *   11  the index is registered already
  *   12  eight symbols are registered, and there is no place for another
  *   13  a name that can't be one (1 to 11 printable bytes, no space, no comma), or a price scale above 6

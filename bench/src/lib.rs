@@ -4,7 +4,7 @@ pub mod feed;
 pub mod ordinary;
 
 /// How many orders a symbol has live, about: a feed is made and timed for each.
-pub const LIVE_DEPTHS: [usize; 1] = [40];
+pub const LIVE_DEPTHS: [usize; 3] = [40, 116, 193];
 
 /// The seed of the feeds that are timed.
 pub const SEED: u64 = 110;

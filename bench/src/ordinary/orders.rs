@@ -6,7 +6,7 @@ use std::hash::BuildHasher;
 use super::{Answer, Refused};
 
 /// A symbol has room for this many live orders.
-pub const LIVE_ORDERS: usize = 64;
+pub const LIVE_ORDERS: usize = 256;
 
 #[derive(Clone, Copy, PartialEq, Eq, Debug)]
 pub enum Side {

@@ -17,3 +17,4 @@ pub mod Positions
 pub mod Reaching
 pub mod Streams
 pub mod Planning
+pub mod Room

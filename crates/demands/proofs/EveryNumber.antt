@@ -140,11 +140,11 @@ pub by-message : ByMessage
 unfolding value littleEndian shapeOf firstBad faultOf reachBy reachOf readBy readBody readSized readShape readTyped readReached readOf firstWhere insert remove look placeOf foundIn vacancyOf applyTo dealTo nameBad registering.registered ruled enacted meeting actOn meant stepOf moveOf stepsOf
 by-message = record { given-0 = refl; given-1 = refl; given-2 = refl; given-3 = refl; given-4 = refl; given-4-at = refl; given-5 = refl; given-6 = refl; given-7 = refl; given-8 = refl; given-9 = refl }
 
--- 64 live orders, and one more
+-- 256 live orders, and one more
 abbrev adds : List (List ℕ)
-adds = tabulate 64 (λ k. add (k + 1) (k + 1) buy 1234500 200)
+adds = tabulate 256 (λ k. add (k + 1) (k + 1) buy 1234500 200)
 
-pub given-10 : Answered (stepsOf (viewABC nyse) adds) (add 65 65 buy 1234500 200) 10
+pub given-10 : Answered (stepsOf (viewABC nyse) adds) (add 257 257 buy 1234500 200) 10
 unfolding value littleEndian shapeOf firstBad faultOf reachBy reachOf readBy readBody readSized readShape readTyped readReached readOf firstWhere tabulate insert remove look placeOf foundIn vacancyOf applyTo dealTo nameBad registering.registered ruled enacted meeting actOn meant stepOf moveOf stepsOf
 given-10 = refl
 

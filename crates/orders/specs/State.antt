@@ -11,7 +11,7 @@ use Rattle.orders.specs.declared.Orders.{Orders}
 
 -- each symbol's own places
 abbrev pub ordersEach : ℕ
-ordersEach = 64
+ordersEach = 256
 
 abbrev pub noOrder : Order
 noOrder = record { live = false; buy = false; number = 0; price = 0; volume = 0 }

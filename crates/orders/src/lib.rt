@@ -1,4 +1,4 @@
-// The live orders of eight symbols, 64 places each: what a change does to them, and the best of each side.
+// The live orders of eight symbols, 256 places each: what a change does to them, and the best of each side.
 //
 // Nothing here knows of messages, of a message's number or of trades. The orders are taken by value and the next ones are handed back; the run of a book lends single arrays.
 mod changes;
@@ -22,7 +22,7 @@ ghost use Rattle.orders.specs.Deciding.{changeAs};
 ghost use Rattle.orders.specs.Promises.{fitNumber};
 
 // Each symbol's own places.
-pub const ORDERS: usize = 64;
+pub const ORDERS: usize = 256;
 
 // The same, as searches take it.
 pub const EACH: u16 = ORDERS as u16;

@@ -246,15 +246,15 @@ fn an_unregistered_symbol_answers_5() {
 }
 
 #[test]
-fn the_65th_order_answers_10() {
+fn the_257th_order_answers_10() {
     hosted(|| {
         let mut book = abc_book();
-        for number in 1..=64 {
+        for number in 1..=256 {
             done(&mut book, &ABC.add(number, u64::from(number), BUY, 10, 1));
         }
-        done(&mut book, &ABC.replace(65, 1, 65, BUY, 10, 2));
-        assert_eq!(book.quote(ABC.index), shown(level(10, 65), None));
-        assert_eq!(answer(&mut book, &ABC.add(66, 66, BUY, 10, 1)), 10);
+        done(&mut book, &ABC.replace(257, 1, 257, BUY, 10, 2));
+        assert_eq!(book.quote(ABC.index), shown(level(10, 257), None));
+        assert_eq!(answer(&mut book, &ABC.add(258, 258, BUY, 10, 1)), 10);
         assert_eq!(book.quote(ABC.index), no_quote(8));
     });
 }
