@@ -21,7 +21,7 @@ pub enum Refusal {
     Stale,
     /// 9: the message does not fit the book.
     Misfit,
-    /// 10: 64 orders are live.
+    /// 10: 256 orders are live.
     Full,
     /// 11: the index is registered already.
     Taken,

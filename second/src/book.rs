@@ -3,7 +3,7 @@
 use crate::answer::Refusal;
 
 /// A symbol has room for this many live orders.
-pub(crate) const LIVE_ORDERS: usize = 64;
+pub(crate) const LIVE_ORDERS: usize = 256;
 
 #[derive(Clone, Copy, PartialEq, Eq, Debug)]
 pub enum Side {

@@ -1,18 +1,18 @@
 //! What is printed of the named cases of request M-101, line by line, written by hand by the rules of
 //! document 01. The fill of a book gives its k-th order k shares. Buys have odd shares, in a book of
-//! 64 in all 32 times 32, and sells even ones, 32 times 33. The n-th call, from 0 on, bids 10,000 and
-//! n and asks 20,000 less n.
+//! 256 in all 128 times 128, and sells even ones, 128 times 129. The n-th call, from 0 on, bids 10,000
+//! and n and asks 20,000 less n.
 
 mod common;
 
 use common::{printed, probed};
 
-/// The lines of a book of 64.
-const FILLED: &str = "G,0\nX,1,2496\nQ,0,10000,1024,20000,1056\n";
+/// The lines of a book of 256.
+const FILLED: &str = "G,0\nX,1,9984\nQ,0,10000,16384,20000,16512\n";
 
 /// The same, and all of its orders found.
 const FULL: &str =
-    "G,0\nX,1,2496\nQ,0,10000,1024,20000,1056\nX,1,2240\nQ,0,10001,1024,19999,1056\n";
+    "G,0\nX,1,9984\nQ,0,10000,16384,20000,16512\nX,1,8960\nQ,0,10001,16384,19999,16512\n";
 
 /// What follows in a stale symbol: a run that finds two orders, a delete, an add and a clear.
 const STALE: &str = "X,1,70\nQ,8,,,,\nS,8,25\nQ,8,,,,\nS,8,39\nQ,8,,,,\nS,0,20\nQ,0,,,,\n";
@@ -32,7 +32,7 @@ fn again(call: u32, orders: u32, whole: u8) -> String {
 #[test]
 fn a_full_family_has_no_room_for_one_more() {
     let adds = "S,10,39\nQ,8,,,,\nX,1,35\nQ,8,,,,\nS,8,39\nQ,8,,,,\n";
-    let end = again(9, 64, 0);
+    let end = again(9, 256, 0);
     assert_eq!(
         probed("a-full-family-and-two-more-adds"),
         format!("{FULL}{adds}{STALE}{end}")
@@ -41,21 +41,21 @@ fn a_full_family_has_no_room_for_one_more() {
 
 #[test]
 fn one_free_place_of_a_family_is_used_once() {
-    // The middle is the 33rd, a buy.
+    // The middle is the 129th, a buy.
     for (free, bids, asks) in [
-        ("first", 1023, 1056),
-        ("middle", 991, 1056),
-        ("last", 1024, 992),
+        ("first", 16383, 16512),
+        ("middle", 16255, 16512),
+        ("last", 16384, 16256),
     ] {
         let lines = format!(
             "\
 {FILLED}S,0,25\nQ,0,10000,{bids},20000,{asks}
-X,1,2205\nQ,0,10002,{bids},19998,{asks}
+X,1,8925\nQ,0,10002,{bids},19998,{asks}
 S,0,39\nQ,0,10002,{bids},19997,500
 X,1,35\nQ,0,10002,{bids},19996,500
 S,10,39\nQ,8,,,,
 {STALE}{}",
-            again(10, 63, 0)
+            again(10, 255, 0)
         );
         let name = format!("a-family-without-its-{free}-and-two-more-adds");
         assert_eq!(probed(&name), lines, "{name}");
@@ -75,19 +75,19 @@ fn a_live_order_does_not_fit_again_wherever_a_place_is_free() {
     ];
     for (name, refused, call) in tries {
         let full = format!("a-full-family-and-{name}");
-        let end = again(call, 64, 0);
+        let end = again(call, 256, 0);
         assert_eq!(
             probed(&full),
             format!("{FULL}{refused}{STALE}{end}"),
             "{full}"
         );
-        for (free, bids, asks) in [("first", 1023, 1056), ("middle", 991, 1056)] {
+        for (free, bids, asks) in [("first", 16383, 16512), ("middle", 16255, 16512)] {
             let lines = format!(
                 "\
 {FILLED}S,0,25\nQ,0,10000,{bids},20000,{asks}
-X,1,2205\nQ,0,10002,{bids},19998,{asks}
+X,1,8925\nQ,0,10002,{bids},19998,{asks}
 {refused}{STALE}{}",
-                again(call + 1, 63, 0)
+                again(call + 1, 255, 0)
             );
             let name = format!("a-family-without-its-{free}-and-{name}");
             assert_eq!(probed(&name), lines, "{name}");
@@ -97,15 +97,19 @@ X,1,2205\nQ,0,10002,{bids},19998,{asks}
 
 #[test]
 fn a_full_family_lets_an_order_be_replaced() {
-    // The new order is found; then two more are, the 33rd and the 64th.
+    // The new order is found; then two more are, the 129th and the 256th.
     let replaced = format!(
         "\
-{FULL}S,0,42\nQ,0,10002,500,19999,1056
-X,1,35\nQ,0,10003,500,19999,1056
-X,1,70\nQ,0,10004,33,19996,64
+{FULL}S,0,42\nQ,0,10002,500,19999,16512
+X,1,35\nQ,0,10003,500,19999,16512
+X,1,70\nQ,0,10004,129,19996,256
 "
     );
-    let itself = "S,0,25\nQ,0,10004,33,19996,64\nS,0,39\nQ,0,10004,33,19994,7\nS,0,20\nQ,0,,,,\n";
+    let itself = "\
+S,0,25\nQ,0,10004,129,19996,256
+S,0,39\nQ,0,10004,129,19994,7
+S,0,20\nQ,0,,,,
+";
     let gone = "S,9,25\nQ,8,,,,\nS,8,39\nQ,8,,,,\nS,0,20\nQ,0,,,,\n";
     for (by, lines, whole) in [
         ("itself", itself, 1),
@@ -113,24 +117,24 @@ X,1,70\nQ,0,10004,33,19996,64
         ("0", gone, 0),
     ] {
         let name = format!("a-full-family-and-a-replace-of-the-first-by-{by}");
-        let end = again(8, 64, whole);
+        let end = again(8, 256, whole);
         assert_eq!(probed(&name), format!("{replaced}{lines}{end}"), "{name}");
     }
 }
 
-/// The first and the last are of two families, and the 33rd may be gone.
+/// The first and the last are of two families, and the 129th may be gone.
 #[test]
 fn no_order_is_replaced_by_a_live_one_of_another_family() {
     let refused = "S,9,42\nQ,8,,,,\nS,0,20\nQ,0,,,,\n";
-    let full = format!("{FULL}{refused}{}", again(4, 64, 0));
+    let full = format!("{FULL}{refused}{}", again(4, 256, 0));
     let less_one = format!(
         "\
-{FILLED}X,1,25\nQ,0,10000,991,20000,1056
-X,1,2205\nQ,0,10002,991,19998,1056
+{FILLED}X,1,25\nQ,0,10000,16255,20000,16512
+X,1,8925\nQ,0,10002,16255,19998,16512
 {refused}{}",
-        again(5, 64, 0)
+        again(5, 256, 0)
     );
-    for sums in ["next-sums", "sums-34-apart"] {
+    for sums in ["next-sums", "sums-89-apart"] {
         for replace in ["the-first-by-the-last", "the-last-by-the-first"] {
             for (book, lines) in [("full", &full), ("less-one", &less_one)] {
                 let name = format!("two-families-of-{sums}-{book}-and-a-replace-of-{replace}");
@@ -148,20 +152,22 @@ fn level(price: u32, shares: u32) -> String {
     }
 }
 
-/// Each delete leaves the prices of the find before it, each find puts all orders at its own.
+/// Each delete leaves the prices of the find before it, each find puts all orders at its own. A find
+/// comes after every fourth delete: the first find is call 1, and each further one five calls later.
 #[test]
 fn each_order_of_a_family_is_found_until_it_goes() {
     let orders: [(&str, Vec<u32>); 3] = [
-        ("from-the-first-on", (1..=64).collect()),
-        ("from-the-last-on", (1..=64).rev().collect()),
+        ("from-the-first-on", (1..=256).collect()),
+        ("from-the-last-on", (1..=256).rev().collect()),
         (
             "from-the-middle-outwards",
-            (1..=32).flat_map(|far| [32 + far, 33 - far]).collect(),
+            (1..=128).flat_map(|far| [128 + far, 129 - far]).collect(),
         ),
     ];
     for (name, leaving) in orders {
         let mut lines = FULL.to_string();
-        let (mut bids, mut asks) = (1024, 1056);
+        let (mut bids, mut asks) = (16384, 16512);
+        let mut find = 1;
         for (gone, shares) in (1..).zip(leaving) {
             if shares % 2 == 1 {
                 bids -= shares;
@@ -172,17 +178,19 @@ fn each_order_of_a_family_is_found_until_it_goes() {
                 let bid = level(10_000 + find, bids);
                 format!("Q,0,{bid},{}\n", level(20_000 - find, asks))
             };
-            lines += &format!("S,0,25\n{}", quote(2 * gone - 1));
-            if gone < 64 {
-                let size = 35 * (64 - gone);
-                lines += &format!("X,1,{size}\n{}", quote(2 * gone + 1));
+            lines += &format!("S,0,25\n{}", quote(find));
+            if gone % 4 == 0 && gone < 256 {
+                find += 5;
+                let size = 35 * (256 - gone);
+                lines += &format!("X,1,{size}\n{}", quote(find));
             }
         }
-        // The first is added after a clear, with 70 shares, and the other 63 beside it.
+        // The last find was call 316, and four deletes followed it. The first is added after a delete
+        // that misses and a clear, with 70 shares, and the other 255 beside it.
         lines += "S,9,25\nQ,8,,,,\nS,0,20\nQ,0,,,,\n";
-        lines += "S,0,39\nQ,0,10131,70,,\nX,1,35\nQ,0,10132,70,,\n";
-        lines += "X,1,2457\nQ,0,10133,1024,19867,992\n";
-        lines += "X,1,2240\nQ,0,10134,1094,19866,992\nQ,0,10134,1094,19866,992\nV,0,0,0\n";
+        lines += "S,0,39\nQ,0,10323,70,,\nX,1,35\nQ,0,10324,70,,\n";
+        lines += "X,1,9945\nQ,0,10325,16384,19675,16256\n";
+        lines += "X,1,8960\nQ,0,10326,16454,19674,16256\nQ,0,10326,16454,19674,16256\nV,0,0,0\n";
         assert_eq!(probed(&format!("a-full-family-emptied-{name}")), lines);
     }
 }
@@ -282,51 +290,52 @@ V,0,0,0\nV,0,0,1\nV,0,0,1
     assert_eq!(probed(name), lines);
 }
 
-/// 40 members of a family and the first 20 of them with another bit, from that call on. The last 20
-/// with the other bit come and go; then the first 20 members go, and come again with 600 shares when
+/// 160 members of a family and the first 80 of them with another bit, from that call on. The last 80
+/// with the other bit come and go; then the first 80 members go, and come again with 600 shares when
 /// the number beside them was found.
 fn two_of_each_number(first: u32) -> String {
     let (bid, ask) = (10_000 + first, 20_000 - first);
-    let filled = format!("Q,0,{bid},900,{ask},930\n");
-    let mut lines = format!("X,1,2340\n{filled}");
-    for turn in 0..20 {
+    // 240 orders: odd shares are 120 times 120, even ones 120 times 121.
+    let filled = format!("Q,0,{bid},14400,{ask},14520\n");
+    let mut lines = format!("X,1,9360\n{filled}");
+    for turn in 0..80 {
         let added = bid + 2 * turn + 1;
-        lines += &format!("S,0,39\nQ,0,{added},500,{ask},930\nS,0,25\n{filled}");
+        lines += &format!("S,0,39\nQ,0,{added},500,{ask},14520\nS,0,25\n{filled}");
     }
     // The first buy and the first sell that go are seen to go; after that other prices are better.
-    let mut bids = format!("{bid},899");
-    let mut asks = format!("{ask},930");
-    for shares in 1..=20 {
+    let mut bids = format!("{bid},14399");
+    let mut asks = format!("{ask},14520");
+    for shares in 1..=80 {
         if shares == 2 {
-            asks = format!("{ask},928");
+            asks = format!("{ask},14518");
         }
         lines += &format!("S,0,25\nQ,0,{bids},{asks}\n");
-        let call = 39 + 3 * shares;
+        let call = 159 + 3 * shares;
         if shares % 2 == 1 {
-            bids = format!("{},{}", bid + call, 40 + shares);
+            bids = format!("{},{}", bid + call, 160 + shares);
         } else {
-            asks = format!("{},{}", ask - call, 40 + shares);
+            asks = format!("{},{}", ask - call, 160 + shares);
         }
         lines += &format!("X,1,35\nQ,0,{bids},{asks}\n");
         bids = format!("{},600", bid + call + 1);
         lines += &format!("S,0,39\nQ,0,{bids},{asks}\n");
     }
-    // Buys: 20 times 600, the odd shares from 21 to 59; sells: the even ones from 22 to 60.
-    let (bid, ask) = (bid + 101, ask - 101);
-    lines + &format!("X,1,2100\nQ,0,{bid},12800,{ask},820\n")
+    // Buys: 80 times 600, the odd shares from 81 to 239; sells: the even ones from 82 to 240.
+    let (bid, ask) = (bid + 401, ask - 401);
+    lines + &format!("X,1,8400\nQ,0,{bid},60800,{ask},12880\n")
 }
 
 #[test]
 fn numbers_that_differ_in_one_bit_are_two() {
-    let end = "Q,0,10101,12800,19899,820\nV,0,0,1\n";
+    let end = "Q,0,10401,60800,19599,12880\nV,0,0,1\n";
     assert_eq!(
         probed("numbers-that-differ-in-the-highest-bit"),
         format!("G,0\n{}{end}", two_of_each_number(0))
     );
-    // Four bits, each after a clear: 103 calls.
-    let bits = [1, 104, 207, 310].map(two_of_each_number);
+    // Four bits, each after a clear: 403 calls.
+    let bits = [1, 404, 807, 1_210].map(two_of_each_number);
     let bits = bits.map(|lines| format!("S,0,20\nQ,0,,,,\n{lines}"));
-    let end = "Q,0,10411,12800,19589,820\nV,0,0,1\n";
+    let end = "Q,0,11611,60800,18389,12880\nV,0,0,1\n";
     assert_eq!(
         probed("numbers-that-differ-in-one-high-bit"),
         format!("G,0\n{}{end}", bits.concat())

@@ -84,8 +84,8 @@ fn a_7_and_a_9_amid_a_run() {
     }
 }
 
-/// Of 64 orders of 10 shares 13 are at the best price, those whose numbers end in 4 and 9.
-const FILLED: &str = "S,0,39\nQ,0,1004,130,,\nV,0,0,1\n";
+/// Of 256 orders of 10 shares 51 are at the best price, those whose numbers end in 4 and 9.
+const FILLED: &str = "S,0,39\nQ,0,1004,510,,\nV,0,0,1\n";
 
 #[test]
 fn a_10_amid_a_run() {
@@ -101,7 +101,7 @@ S,0,39\n{end}"
     );
     let text = probed(name);
     assert!(text.ends_with(&steps), "{text}");
-    let run = format!("G,0\nX,1,2658\n{end}");
+    let run = format!("G,0\nX,1,10146\n{end}");
     assert_eq!(probed(&format!("{name}-at-once")), run);
 }
 
@@ -109,16 +109,16 @@ S,0,39\n{end}"
 #[test]
 fn a_10_on_the_page() {
     let time = "09:30:00.000000125,ABC";
-    let adds = (1..=64).map(|number| {
+    let adds = (1..=256).map(|number| {
         let price = number % 5;
         format!("100,{number},{time},{number},{number},0.100{price},10,B,FIRM1,0\n")
     });
     let behind = format!(
         "\
-R,10,65
-R,8,66
-100,68,{time},65,1,0.3000,3,S,FIRM1,0
-100,69,{time},66,66,0.0900,4,B,FIRM1,0
+R,10,257
+R,8,258
+100,260,{time},257,1,0.3000,3,S,FIRM1,0
+100,261,{time},258,258,0.0900,4,B,FIRM1,0
 E,1
 Q,0.0900,4,0.3000,3
 "
@@ -146,7 +146,7 @@ S,0,39\n{end}"
     );
     let text = probed(name);
     assert!(text.ends_with(&steps), "{text}");
-    let run = format!("G,0\nX,1,2767\n{end}");
+    let run = format!("G,0\nX,1,10255\n{end}");
     assert_eq!(probed(&format!("{name}-at-once")), run);
 }
 

@@ -79,13 +79,13 @@ impl Pool {
     }
 }
 
-/// How far the sums of so many families are from the first one's, no two the same. Sums that are 34
-/// or 89 apart are close where homes are spread by the golden ratio.
+/// How far the sums of so many families are from the first one's, no two the same. Sums that are 89,
+/// 144 or 377 apart are close where homes are spread by the golden ratio.
 fn distances(families: usize, random: &mut Random) -> Vec<u32> {
     let mut distances = vec![0];
     while distances.len() < families {
         let (far, bit) = (random.u32_below(1_000_000), high_bit(random));
-        let apart = random.pick(&[1, 2, 34, 63, 64, 89, 512, far, bit, bit]);
+        let apart = random.pick(&[1, 2, 89, 144, 255, 256, 377, 2_048, far, bit, bit, bit]);
         if !distances.contains(&apart) {
             distances.push(apart);
         }
@@ -113,7 +113,7 @@ mod tests {
             (1, 0..2),
             (1_000, 0..2_000),
             (u32::MAX, u32::MAX - 99..u32::MAX),
-            (u32::MAX - 64, u32::MAX - 63..u32::MAX),
+            (u32::MAX - 256, u32::MAX - 255..u32::MAX),
         ] {
             let members = Family::of_sum(sum).members(highs.clone());
             for (high, member) in highs.clone().zip(&members) {

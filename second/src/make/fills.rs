@@ -12,7 +12,7 @@ pub fn push_fill(maker: &mut Maker) {
     let index = maker.source.index();
     match maker.random().below(8) {
         0 => {
-            // Eight full symbols hold 512 orders.
+            // Eight full symbols hold 2,048 orders.
             for index in maker.source.indices().to_vec() {
                 fill_book(maker, index);
             }
@@ -36,7 +36,7 @@ pub fn push_fill(maker: &mut Maker) {
     maker.list.volume(index);
 }
 
-/// Adds until 64 orders are live.
+/// Adds until 256 orders are live.
 fn fill_book(maker: &mut Maker, index: u32) {
     let mut bytes = Vec::new();
     for _ in maker.source.live(index).len()..LIVE_ORDERS {

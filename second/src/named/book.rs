@@ -1,6 +1,5 @@
-//! Corners of numbers, of fit and of room.
+//! Corners of numbers and of fit.
 
-use super::listed::adds;
 use super::Cases;
 use crate::make::messages::*;
 use crate::wire::Message;
@@ -16,8 +15,6 @@ pub fn add_to(cases: &mut Cases) {
     stale(cases);
     clears(cases);
     fits(cases);
-    replaces(cases);
-    eight_full_symbols(cases);
 }
 
 fn numbers(cases: &mut Cases) {
@@ -139,10 +136,6 @@ fn fits(cases: &mut Cases) {
         cases.both(name, &[one(), message, retail(2), retail(3)]);
     }
     cases.both(
-        "add-of-a-live-order-with-64-live",
-        &[adds(64), vec![add(65, 64, BUY, 1, 1), retail(65)]].concat(),
-    );
-    cases.both(
         "an-order-number-is-used-again",
         &[
             one(),
@@ -167,13 +160,6 @@ fn fits(cases: &mut Cases) {
             modify(4, 1, BUY, 900, LAST),
         ],
     );
-}
-
-fn one_at(number: u32) -> Message {
-    Message { number, ..one() }
-}
-
-fn replaces(cases: &mut Cases) {
     cases.both(
         "replace-by-another-live-number",
         &[
@@ -184,49 +170,8 @@ fn replaces(cases: &mut Cases) {
             clear(3),
         ],
     );
-    cases.both(
-        "replace-of-the-last-order",
-        &[
-            adds(64),
-            vec![replace(65, 64, 65, BUY, 1, 1), add(66, 64, BUY, 1, 1)],
-        ]
-        .concat(),
-    );
-    cases.both(
-        "replace-by-a-live-number-with-64-live",
-        &[adds(64), vec![replace(65, 64, 63, BUY, 1, 1)]].concat(),
-    );
 }
 
-/// 512 live orders, and one more in each symbol.
-fn eight_full_symbols(cases: &mut Cases) {
-    cases.calls("eight-full-symbols", |calls| {
-        let indices = [7, 0, u32::MAX, 1, 2, 3, 1_000_000, 8];
-        for index in indices {
-            calls.register(index, 2, b"SAME");
-        }
-        for index in indices {
-            let messages: Vec<_> = (1..=64)
-                .map(|number| {
-                    let volume = (index % 100) + 1;
-                    on(
-                        index,
-                        add(number, u64::from(number), SELL, 500 + number % 3, volume),
-                    )
-                })
-                .collect();
-            calls.run_messages(&messages);
-        }
-        for index in indices {
-            calls.quote(index);
-        }
-        calls.step_messages(&[on(1, replace(65, 64, 1000, SELL, 1, 1))]);
-        calls.step_messages(&[on(2, add(65, 65, SELL, 1, 1)), on(2, clear(9))]);
-        calls.step_messages(&[on(3, add(65, 64, SELL, 1, 1))]);
-        calls.step_messages(&[on(8, delete(65, 3)), on(8, add(66, 65, SELL, 1, 1))]);
-        for index in indices {
-            calls.quote(index);
-            calls.volume(index);
-        }
-    });
+fn one_at(number: u32) -> Message {
+    Message { number, ..one() }
 }

@@ -1,23 +1,10 @@
-//! The cases of the day without a letter, and the errors that come easily.
+//! The cases of the day without a letter, but for those of a full book, and the errors that come
+//! easily.
 
 use super::Cases;
 use crate::make::messages::*;
-use crate::wire::Message;
-
-/// As many adds as said, from number 1 and order 1 on.
-pub fn adds(count: u32) -> Vec<Message> {
-    (1..=count)
-        .map(|number| add(number, u64::from(number), BUY, 1000 + number % 5, 10))
-        .collect()
-}
-
-fn with(mut messages: Vec<Message>, more: &[Message]) -> Vec<Message> {
-    messages.extend(more);
-    messages
-}
 
 pub fn add_to(cases: &mut Cases) {
-    full_book(cases);
     two_faults(cases);
     cases.both("price-5-at-scale-4", &[add(1, 1, BUY, 5, 10)]);
     cases.calls_on_abc("second-86399-and-86400", |calls| {
@@ -27,34 +14,6 @@ pub fn add_to(cases: &mut Cases) {
         }
     });
     easy_errors(cases);
-}
-
-fn full_book(cases: &mut Cases) {
-    cases.both("the-64th-live", &adds(64));
-    cases.both("the-65th-answers-10", &adds(65));
-    cases.both(
-        "replace-with-64-live",
-        &with(
-            adds(64),
-            &[
-                replace(65, 1, 100, BUY, 2000, 7),
-                replace(66, 100, 100, BUY, 3000, 8),
-            ],
-        ),
-    );
-    cases.both(
-        "freed-room-is-used-again",
-        &with(
-            adds(64),
-            &[
-                delete(65, 10),
-                add(66, 65, SELL, 5000, 1),
-                execute(67, 20, 999, 10),
-                add(68, 10, SELL, 4000, 2),
-                add(69, 20, SELL, 4000, 3),
-            ],
-        ),
-    );
 }
 
 fn two_faults(cases: &mut Cases) {
@@ -72,10 +31,6 @@ fn two_faults(cases: &mut Cases) {
             add(1, 1, BUY, 1000, 10),
             on(8, add(0, 1, BUY, 1000, 10)),
         ],
-    );
-    cases.both(
-        "gap-and-full",
-        &with(adds(64), &[add(66, 66, BUY, 1000, 10)]),
     );
     cases.both(
         "gap-and-misfit",

@@ -8,6 +8,7 @@ mod codes;
 mod conditions;
 mod day;
 mod fields;
+mod full;
 mod homes;
 mod listed;
 mod markets;
@@ -44,6 +45,7 @@ impl Cases {
         codes::add_to(&mut cases);
         markets::add_to(&mut cases);
         book::add_to(&mut cases);
+        full::add_to(&mut cases);
         homes::add_to(&mut cases);
         record::add_to(&mut cases);
         registering::add_to(&mut cases);

@@ -1,6 +1,6 @@
 //! Corners of the program: places, the end of the file, the last quote, parts.
 
-use super::listed::adds;
+use super::full::adds;
 use super::Cases;
 use crate::make::messages::*;
 
@@ -38,10 +38,16 @@ fn quotes(cases: &mut Cases) {
             add(2, 2, SELL, u32::MAX, u32::MAX),
         ],
     );
-    let large: Vec<_> = (1..=64)
-        .map(|number| add(number, u64::from(number), SELL, 5, u32::MAX))
-        .collect();
-    cases.both("sizes-past-32-bits", &large);
+    cases.both(
+        "sizes-past-32-bits",
+        &[
+            add(1, 1, SELL, 5, u32::MAX),
+            add(2, 2, SELL, 5, 1),
+            add(3, 3, SELL, 5, u32::MAX),
+            add(4, 4, BUY, 4, u32::MAX),
+            add(5, 5, BUY, 4, 2),
+        ],
+    );
     cases.both(
         "a-crossed-book-is-quoted-as-it-is",
         &[add(1, 1, BUY, 2000, 10), add(2, 2, SELL, 1000, 20)],
@@ -159,9 +165,9 @@ fn parts(cases: &mut Cases) {
             [unknown(4).repeat(before), one_add(), feed(&[delete(2, 1)])].concat(),
         );
     }
-    let mut many = adds(64);
-    for number in 65..=4000 {
-        let order = u64::from(number % 64) + 1;
+    let mut many = adds(256);
+    for number in 257..=4000 {
+        let order = u64::from(number % 256) + 1;
         many.push(modify(number, order, BUY, 1000 + number % 7, number));
     }
     cases.feed("four-thousand-messages", &many);

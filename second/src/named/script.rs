@@ -14,8 +14,9 @@ use crate::wire::{Body, Message};
 const BID: u32 = 10_000;
 const ASK: u32 = 20_000;
 
-/// A feed shows its last quote alone: one of more messages is not worth its time.
-const LONGEST_FEED: usize = 100;
+/// A feed shows its last quote alone: one of many more messages than fill a book is not worth its
+/// time.
+const LONGEST_FEED: usize = LIVE_ORDERS + 36;
 
 /// The symbols before ABC where that is the eighth. The first and the last of them have live orders.
 const BEFORE: [u32; SYMBOLS - 1] = [1, 2, 3, 4, 5, 6, 8];

@@ -8,8 +8,8 @@ use crate::named::script::Script;
 /// All orders that are left are found after one deletion in so many.
 type Rate = usize;
 
-/// After each deletion in a book of 64; of a larger book that file would be too long for the probe.
-const OFTEN: Rate = LIVE_ORDERS.div_ceil(64);
+/// With all that are left of 256 found after each deletion, a file would be too long for the probe.
+const OFTEN: Rate = 4;
 
 pub fn scripts() -> Vec<Named> {
     let mut scripts: Vec<Named> = emptyings()
@@ -52,7 +52,7 @@ pub fn every_second() -> Vec<usize> {
 /// Each place once, and never two neighbours one after the other.
 pub fn scattered() -> Vec<usize> {
     (0..LIVE_ORDERS)
-        .map(|turn| turn * 37 % LIVE_ORDERS)
+        .map(|turn| turn * 157 % LIVE_ORDERS)
         .collect()
 }
 
@@ -96,20 +96,20 @@ mod tests {
     #[test]
     fn the_middle_comes_first_and_the_ends_last() {
         let places = super::from_the_middle();
-        assert_eq!(places[..4], [32, 31, 33, 30]);
-        assert_eq!(places[LIVE_ORDERS - 2..], [63, 0]);
+        assert_eq!(places[..4], [128, 127, 129, 126]);
+        assert_eq!(places[LIVE_ORDERS - 2..], [255, 0]);
         assert_eq!(super::every_second()[..3], [1, 3, 5]);
-        assert_eq!(super::scattered()[..4], [0, 37, 10, 47]);
+        assert_eq!(super::scattered()[..4], [0, 157, 58, 215]);
     }
 
     #[test]
     fn the_largest_sums_fill_a_book() {
         let orders = largest();
         assert_eq!(orders.len(), LIVE_ORDERS);
-        assert_eq!(orders[0], 0xFFFF_FFC0_FFFF_FFFF);
-        assert_eq!(orders[LIVE_ORDERS - 1], 0xFFFF_FFFF_FFFF_FFC0);
+        assert_eq!(orders[0], 0xFFFF_FF00_FFFF_FFFF);
+        assert_eq!(orders[LIVE_ORDERS - 1], 0xFFFF_FFFF_FFFF_FF00);
         for order in orders {
-            assert_eq!(Family::of_order(order), Family::of_sum(0xFFFF_FFBF));
+            assert_eq!(Family::of_order(order), Family::of_sum(0xFFFF_FEFF));
         }
     }
 }

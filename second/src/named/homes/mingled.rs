@@ -7,15 +7,18 @@ use crate::make::families::Family;
 use crate::make::messages::{BUY, SELL};
 use crate::named::script::Script;
 
-/// Sums that lie close, and some more whose homes are neighbours or the same where homes are spread
-/// by the golden ratio.
+/// Sums that lie close or as far apart as a symbol has places, and two more whose homes are neighbours
+/// and the same where homes are spread by the golden ratio.
 const OTHERS: [(&str, Family); 5] = [
     ("next-sums", NEXT_FAMILY),
-    ("sums-34-apart", Family::of_sum(1_034)),
-    ("sums-63-apart", Family::of_sum(1_063)),
-    ("sums-64-apart", Family::of_sum(1_064)),
     ("sums-89-apart", Family::of_sum(1_089)),
+    ("sums-255-apart", Family::of_sum(1_255)),
+    ("sums-256-apart", Family::of_sum(1_256)),
+    ("sums-377-apart", Family::of_sum(1_377)),
 ];
+
+/// An eighth of a full book: when so many went, those that are left are found.
+const EIGHTH: usize = LIVE_ORDERS / 8;
 
 pub fn scripts() -> Vec<Named> {
     OTHERS
@@ -67,7 +70,7 @@ fn fill_and_empty(script: &mut Script, orders: &[u64]) {
         script.fill(filling);
         for (turn, order) in (1..).zip(emptying) {
             script.delete(*order);
-            if turn % 16 == 0 {
+            if turn % EIGHTH == 0 {
                 script.find_all();
             }
         }
@@ -83,7 +86,7 @@ fn one_after_the_other(script: &mut Script) {
     let [one, other] = [FAMILY, NEXT_FAMILY].map(super::roomful);
     script.fill(&one);
     for (leaving, coming) in [(&one, &other), (&other, &one)] {
-        for (old, new) in leaving.chunks(16).zip(coming.chunks(16)) {
+        for (old, new) in leaving.chunks(EIGHTH).zip(coming.chunks(EIGHTH)) {
             script.empty(old);
             script.fill(new);
             script.find_all();

@@ -91,7 +91,8 @@ fn come_and_stay(script: &mut Script) {
 fn edges_in_a_full_book(script: &mut Script) {
     let family = roomful(FAMILY);
     script.fill(&family);
-    let others = [family[0], family[31], family[32], family[63]];
+    let [middle, last] = [LIVE_ORDERS / 2, LIVE_ORDERS - 1];
+    let others = [0, middle - 1, middle, last].map(|place| family[place]);
     for (old, new) in others.into_iter().zip(EDGES) {
         script.replace(old, new, 200);
     }

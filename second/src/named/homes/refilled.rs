@@ -1,7 +1,7 @@
 //! Books that are filled again after a clear or after executions.
 
 use super::emptied::scattered;
-use super::{miss, named, roomful, Named, FAMILY, NEXT_FAMILY};
+use super::{miss, named, roomful, Named, FAMILY, NEXT_FAMILY, ROOM};
 use crate::book::LIVE_ORDERS;
 use crate::make::messages::BUY;
 use crate::named::script::Script;
@@ -72,7 +72,7 @@ fn executed(script: &mut Script) {
     }
     script.fill(&orders);
     script.find_all();
-    script.execute(orders[LIVE_ORDERS - 1], 65);
+    script.execute(orders[LIVE_ORDERS - 1], ROOM + 1);
     script.clear();
     script.fill(&orders[..2]);
 }

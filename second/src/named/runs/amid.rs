@@ -2,7 +2,7 @@
 
 use super::{named, Twice};
 use crate::make::messages::*;
-use crate::named::listed::adds;
+use crate::named::full::adds;
 use crate::named::Cases;
 use crate::wire::Message;
 
@@ -29,22 +29,22 @@ const REFUSED: [(&str, Refused); 6] = [
 /// comes a low number, and a clear to the expected one: only the 10 costs the mark.
 pub fn add_to(cases: &mut Cases) {
     let behind = [
-        delete(64, 1),
-        clear(65),
-        add(65, 1, SELL, 3000, 3),
-        add(66, 66, BUY, 900, 4),
+        delete(256, 1),
+        clear(257),
+        add(257, 1, SELL, 3000, 3),
+        add(258, 258, BUY, 900, 4),
     ];
-    cases.both("a-10-amid-a-run", &[&adds(65), &behind[..]].concat());
+    cases.both("a-10-amid-a-run", &[&adds(257), &behind[..]].concat());
     let replaces = [
-        replace(65, 1, 1, BUY, 2000, 7),
-        replace(66, 2, 65, BUY, 2000, 8),
-        delete(67, 1),
-        add(68, 2, BUY, 2000, 9),
-        replace(69, 65, 66, BUY, 2000, 10),
-        execute(70, 3, 900, 10),
-        add(71, 3, BUY, 2000, 11),
+        replace(257, 1, 1, BUY, 2000, 7),
+        replace(258, 2, 257, BUY, 2000, 8),
+        delete(259, 1),
+        add(260, 2, BUY, 2000, 9),
+        replace(261, 257, 258, BUY, 2000, 10),
+        execute(262, 3, 900, 10),
+        add(263, 3, BUY, 2000, 11),
     ];
-    let messages = [&adds(64), &replaces[..]].concat();
+    let messages = [&adds(256), &replaces[..]].concat();
     cases.both("replaces-in-a-full-book-amid-a-run", &messages);
 }
 
