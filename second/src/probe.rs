@@ -34,6 +34,16 @@ pub fn probe(calls: &[u8]) -> String {
     text
 }
 
+/// Makes the calls and looks at the state after each.
+#[cfg(test)]
+pub(crate) fn watch(calls: &[u8], mut look: impl FnMut(&Reader)) {
+    let mut reader = Reader::new(Market::Nyse);
+    let mut cursor = Cursor::new(calls);
+    while !cursor.is_empty() && call(&mut reader, &mut cursor).is_some() {
+        look(&reader);
+    }
+}
+
 fn call(reader: &mut Reader, cursor: &mut Cursor) -> Option<String> {
     match cursor.u8()? {
         b'N' => {

@@ -50,6 +50,11 @@ impl Reader {
         self.symbols.iter().find(|symbol| symbol.index == index)
     }
 
+    #[cfg(test)]
+    pub(crate) fn symbols(&self) -> &[Symbol] {
+        &self.symbols
+    }
+
     /// Applies the message at `at`, and hands back the position of the next one with the message
     /// that was done.
     pub fn step(&mut self, stream: &[u8], at: usize) -> (usize, Result<Message, Refusal>) {

@@ -80,7 +80,7 @@ pub(super) fn list(seed: u64, kind: CallKind, count: usize) -> CallList {
 }
 
 /// Registers some symbols, eight where books are to be full, and then tries a ninth. Books of few
-/// families begin near full.
+/// families begin near full; of other states one in five begins with a full book.
 fn begin(maker: &mut Maker, kind: CallKind) {
     let symbols = match kind {
         CallKind::Full => SYMBOLS,
@@ -96,8 +96,11 @@ fn begin(maker: &mut Maker, kind: CallKind) {
         let ninth = registers::good(maker.random());
         maker.register(ninth);
     }
-    if kind == CallKind::Homes {
-        homes::begin(maker);
+    match kind {
+        CallKind::Homes => homes::begin(maker),
+        CallKind::Full => {}
+        _ if maker.random().one_in(5) => fills::begin(maker),
+        _ => {}
     }
 }
 
@@ -187,8 +190,9 @@ fn push_fault(maker: &mut Maker) {
 
 #[cfg(test)]
 mod tests {
-    use super::{calls, list, CallKind, CALL_KINDS};
-    use crate::probe::{probe, LARGEST_FILE};
+    use super::{calls, list, CallKind, CALL_KINDS, MIXED, SYMBOLS};
+    use crate::book::LIVE_ORDERS;
+    use crate::probe::{probe, watch, LARGEST_FILE};
     use std::collections::HashSet;
 
     /// Messages, which one by one are as many steps, are counted in lists of the kind `twice`.
@@ -243,5 +247,38 @@ mod tests {
                 );
             }
         }
+    }
+
+    /// Whether so many symbols are full at once after some call.
+    fn are_full(calls: &[u8], symbols: usize) -> bool {
+        let mut most = 0;
+        watch(calls, |reader| {
+            let books = reader.symbols().iter().map(|symbol| &symbol.book);
+            let full = books.filter(|book| book.orders().len() == LIVE_ORDERS);
+            most = most.max(full.count());
+        });
+        most >= symbols
+    }
+
+    /// Of as many lists as are compared, of as many calls, those with so many symbols full at once.
+    fn full_lists(kind: CallKind, symbols: usize) -> usize {
+        (1..=25)
+            .filter(|seed| are_full(&calls(*seed, kind, 200), symbols))
+            .count()
+    }
+
+    #[test]
+    fn books_of_every_kind_fill_up() {
+        for (name, kind) in CALL_KINDS[..=MIXED].iter() {
+            let count = full_lists(*kind, 1);
+            assert!(count >= 5, "{name}: {count}");
+        }
+    }
+
+    /// 2,048 live orders.
+    #[test]
+    fn eight_books_are_full_at_once() {
+        let count = full_lists(CallKind::Full, SYMBOLS);
+        assert!(count >= 10, "{count}");
     }
 }

@@ -6,7 +6,7 @@ use super::ends;
 use super::messages::ABC;
 use super::noise::noise;
 use super::random::Random;
-use super::source::Source;
+use super::source::{Source, DEPTHS};
 use super::strays::stray;
 use crate::answer::Refusal;
 use crate::book::LIVE_ORDERS;
@@ -40,7 +40,7 @@ pub const FEED_KINDS: [(&str, FeedKind); 8] = [
 ];
 
 /// A feed of `count` messages of NYSE, the program's market. Only index 7 is registered where the
-/// program reads it.
+/// program reads it. One feed in five begins with the adds of a full book, which are not counted.
 pub fn feed(seed: u64, kind: FeedKind, count: usize) -> Vec<u8> {
     let mut maker = Maker::new(Random::new(seed, &format!("feed {kind:?}")));
     let mut now = kind;
@@ -70,12 +70,25 @@ impl Maker {
         for index in [ABC, 8, 0, u32::MAX, 0x0700_0000] {
             let _ = source.register(index, 4, b"ABC");
         }
-        let depth = source.draw.random.pick(&[2, 8, 30, LIVE_ORDERS]);
+        let depth = source.draw.random.pick(&DEPTHS);
         source.aim_at(depth);
-        Maker {
+        let mut maker = Maker {
             source,
             program: new_reader(),
             bytes: Vec::new(),
+        };
+        if depth == LIVE_ORDERS {
+            maker.fill();
+        }
+        maker
+    }
+
+    /// Adds until the book of ABC is full: in a short feed it would not get so far.
+    fn fill(&mut self) {
+        for _ in 0..LIVE_ORDERS {
+            let message = self.source.next_add(ABC);
+            let bytes = self.sent(message);
+            self.push(&bytes);
         }
     }
 
@@ -130,13 +143,14 @@ impl Maker {
         message
     }
 
-    /// A message in its turn or a stray, one in so many once the book is as deep as it is to be.
+    /// A message in its turn or a stray, one in so many once the book is as deep as it is to be. Before
+    /// that strays are so rare that a book can get full.
     fn maybe_stray(&mut self, rate: usize) -> Message {
         let index = self.source.index();
         let rate = if self.source.is_deep(index) {
             rate
         } else {
-            150
+            600
         };
         if self.random().one_in(rate) {
             stray(&mut self.source, index)
@@ -169,7 +183,9 @@ impl Maker {
 
 #[cfg(test)]
 mod tests {
-    use super::{feed, FEED_KINDS};
+    use super::{feed, FeedKind, ABC, FEED_KINDS, LIVE_ORDERS};
+    use crate::answer::number;
+    use crate::program::new_reader;
     use crate::wire::extent;
     use crate::wire::message::TYPES;
 
@@ -190,6 +206,59 @@ mod tests {
                     assert!(types.contains(&kind), "{name} has no {kind}");
                 }
             }
+        }
+    }
+
+    /// As many short feeds as are compared, of as many messages.
+    fn short_feeds(kind: FeedKind) -> Vec<Vec<u8>> {
+        let shorter = (1..=20).map(|seed| feed(seed, kind, 20));
+        let longer = (21..=40).map(|seed| feed(seed, kind, 150));
+        shorter.chain(longer).collect()
+    }
+
+    /// What is answered where the book of ABC is full.
+    fn answers_when_full(bytes: &[u8]) -> Vec<u8> {
+        let mut program = new_reader();
+        let mut answers = Vec::new();
+        let mut at = 0;
+        loop {
+            let abc = program.symbol(ABC).expect("the program registers it");
+            let is_full = abc.book.orders().len() == LIVE_ORDERS;
+            let (next, done) = program.step(bytes, at);
+            if next == at {
+                return answers;
+            }
+            if is_full {
+                answers.push(number(&done));
+            }
+            at = next;
+        }
+    }
+
+    /// Also one of 20 messages, which are fewer than fill a book.
+    #[test]
+    fn short_feeds_of_every_kind_meet_full_books() {
+        for (name, kind) in FEED_KINDS {
+            let feeds = short_feeds(kind);
+            for (length, feeds) in [("shorter", &feeds[..20]), ("longer", &feeds[20..])] {
+                let full = |bytes: &&Vec<u8>| answers_when_full(bytes).contains(&0);
+                let count = feeds.iter().filter(full).count();
+                assert!(count >= 2, "{name} {length}: {count}");
+            }
+        }
+    }
+
+    /// One add too many, and messages that do not fit.
+    #[test]
+    fn short_feeds_of_misfits_overfill_books() {
+        let feeds = short_feeds(FeedKind::Misfit);
+        let answers: Vec<u8> = feeds
+            .iter()
+            .flat_map(|bytes| answers_when_full(bytes))
+            .collect();
+        for answer in [9, 10] {
+            let count = answers.iter().filter(|it| **it == answer).count();
+            assert!(count >= 3, "{answer}: {count}");
         }
     }
 }

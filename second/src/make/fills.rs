@@ -8,6 +8,14 @@ use crate::record::KEPT_TRADES;
 use crate::wire::write::to_bytes;
 use crate::wire::Body;
 
+/// The first book is full, and is to stay so.
+pub fn begin(maker: &mut Maker) {
+    if let Some(first) = maker.source.indices().first().copied() {
+        fill_book(maker, first);
+        maker.source.aim_at(LIVE_ORDERS);
+    }
+}
+
 pub fn push_fill(maker: &mut Maker) {
     let index = maker.source.index();
     match maker.random().below(8) {

@@ -24,9 +24,9 @@ pub fn begin(maker: &mut Maker) {
 pub fn push_home(maker: &mut Maker) {
     let index = index(maker);
     match maker.random().below(200) {
-        0..=2 => fill(maker, index),
-        3..=5 => drain(maker, index),
-        6..=79 => {
+        0..=5 => fill(maker, index),
+        6 => drain(maker, index),
+        7..=79 => {
             let bytes = next_change(maker, index);
             maker.step_at(0, &bytes);
         }

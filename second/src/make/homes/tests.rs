@@ -95,7 +95,7 @@ fn messages_are_mostly_done() {
 }
 
 /// Every list has a full book. Of the messages that are no adds most find a book with at most
-/// eight free places.
+/// eight free places; those that empty a full one, which are many, are the others.
 #[test]
 fn books_are_mostly_near_full() {
     let mut free = Vec::new();

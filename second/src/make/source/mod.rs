@@ -11,6 +11,9 @@ use crate::line::line_text;
 use crate::reader::Reader;
 use crate::wire::{Body, Market, Message};
 
+/// How many live orders books are to have.
+pub const DEPTHS: [usize; 5] = [2, 8, 30, 120, LIVE_ORDERS];
+
 #[derive(Clone)]
 pub struct Source {
     pub draw: Draw,
@@ -63,15 +66,29 @@ impl Source {
         self.next_of(index)
     }
 
-    /// The next message of a symbol; it is applied here.
+    /// The next message of a symbol; it is applied here. A book that is to be full is cleared less
+    /// often before it is: a clear would mostly come first.
     pub fn next_of(&mut self, index: u32) -> Message {
         let used_up = self.expected(index) > u64::from(u32::MAX);
-        let clears = if used_up { 5 } else { self.clears };
+        let filling = self.depth == LIVE_ORDERS && !self.is_deep(index);
+        let clears = match (used_up, filling) {
+            (true, _) => 5,
+            (false, true) => 4 * self.clears,
+            (false, false) => self.clears,
+        };
         let message = if self.draw.random.one_in(clears) {
             self.clear_sample(index)
         } else {
             self.sample(index)
         };
+        self.apply(message)
+    }
+
+    /// An add of a symbol in its turn; it is applied here.
+    pub fn next_add(&mut self, index: u32) -> Message {
+        let number = self.number(index);
+        let body = self.add_body(index);
+        let message = self.message(index, number, body);
         self.apply(message)
     }
 
@@ -161,7 +178,7 @@ impl Source {
                 .random
                 .pick(&[expected, expected, expected.saturating_add(near), 1, 0])
         };
-        self.depth = self.draw.random.pick(&[2, 8, 30, LIVE_ORDERS, LIVE_ORDERS]);
+        self.depth = self.draw.random.pick(&DEPTHS);
         let seconds = self.draw.seconds();
         self.message(index, next, Body::Clear { seconds })
     }

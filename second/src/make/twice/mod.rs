@@ -12,8 +12,9 @@ use super::random::Random;
 use super::registers::Asked;
 use crate::probe::LARGEST_FILE;
 
-/// More messages than these a list does not have: both times a message takes some 40 bytes of it.
-const MOST: usize = LARGEST_FILE / 100;
+/// More messages than these a list does not have: both times a message takes some 40 bytes of it, and
+/// eight full books take some 80,000.
+const MOST: usize = LARGEST_FILE / 120;
 
 /// How many messages a run may have. None has more than 400 bytes, and a call less than 65,536.
 const IN_A_RUN: [usize; 6] = [0, 1, 4, 20, 60, 150];
@@ -30,11 +31,13 @@ struct Run {
 /// What a list says twice.
 struct Twice {
     symbols: Vec<Asked>,
+    /// Both states begin with these runs, each of adds that fill a book.
+    full: Vec<Vec<u8>>,
     messages: Vec<Vec<u8>>,
     runs: Vec<Run>,
 }
 
-/// A list of that many messages.
+/// A list of that many messages, beside those that fill books at the start.
 pub fn list(random: Random, count: usize) -> CallList {
     Twice::drawn(random, count).list()
 }
@@ -46,6 +49,7 @@ impl Twice {
         let runs = runs(&maker.messages, &mut maker.source.draw.random);
         Twice {
             symbols: maker.symbols,
+            full: maker.full,
             messages: maker.messages,
             runs,
         }
@@ -55,7 +59,7 @@ impl Twice {
     /// after the same messages.
     fn list(&self) -> CallList {
         let mut list = CallList::new();
-        self.register(&mut list);
+        self.begin(&mut list);
         for run in &self.runs {
             for message in &self.messages[run.messages.clone()] {
                 list.step(0, message);
@@ -63,7 +67,7 @@ impl Twice {
             self.ask(&mut list);
         }
         list.new_state();
-        self.register(&mut list);
+        self.begin(&mut list);
         for run in &self.runs {
             self.push_run(&mut list, run);
             self.ask(&mut list);
@@ -71,9 +75,12 @@ impl Twice {
         list
     }
 
-    fn register(&self, list: &mut CallList) {
+    fn begin(&self, list: &mut CallList) {
         for (index, scale, name) in &self.symbols {
             list.register(*index, *scale, name);
+        }
+        for adds in &self.full {
+            list.run(0, adds);
         }
     }
 

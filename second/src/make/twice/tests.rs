@@ -6,7 +6,7 @@ use crate::book::LIVE_ORDERS;
 use crate::make::calls::{calls, CallKind};
 use crate::make::random::Random;
 use crate::probe::probe;
-use crate::reader::Reader;
+use crate::reader::{Reader, SYMBOLS};
 use crate::record::KEPT_TRADES;
 use crate::wire::message::TYPES;
 use crate::wire::{read, Body, Market, Message};
@@ -49,6 +49,9 @@ fn told(twice: &Twice) -> Vec<Vec<Told>> {
     for (index, scale, name) in &twice.symbols {
         assert_eq!(reader.register(*index, *scale, name), Ok(()));
     }
+    for adds in &twice.full {
+        reader.run(adds, 0);
+    }
     let mut tell = |bytes: &Vec<u8>| {
         let message = read(Market::Nyse, bytes, 0).1.ok();
         let symbol = message.and_then(|message| reader.symbol(message.index));
@@ -76,11 +79,13 @@ fn count(runs: &[Vec<Told>], property: impl Fn(&Told) -> bool) -> usize {
     runs.iter().flatten().filter(|told| property(told)).count()
 }
 
-/// The answers of quotes and volumes, in the first state and in the second.
+/// The answers of quotes and volumes, in the first state and in the second. Only the full books are
+/// runs in the first.
 fn asked(seed: u64) -> [Vec<String>; 2] {
     let text = probe(&calls(seed, CallKind::Twice, COUNT));
     let (steps, runs) = text.split_once("\nN\n").expect("two states");
-    assert!(!steps.contains("\nX,") && !runs.contains("\nS,"), "{seed}");
+    assert_eq!(steps.matches("\nX,").count(), twice(seed).full.len());
+    assert!(!runs.contains("\nS,"), "{seed}");
     [steps, runs].map(|half| {
         let asked = half.lines().filter(|line| line.starts_with(['Q', 'V']));
         asked.map(String::from).collect()
@@ -164,6 +169,16 @@ fn runs_go_on_behind_clears_and_refusals() {
     for answer in [6, 7, 9, 10] {
         let count = followed(&runs, |told| told.answer == answer);
         assert!(count >= 10, "{answer}: {count}");
+    }
+}
+
+/// Some lists begin with no full book, some with one or two, and some with eight.
+#[test]
+fn lists_begin_with_full_books() {
+    let full: Vec<usize> = SEEDS.map(|seed| twice(seed).full.len()).collect();
+    for books in [0..1, 1..3, SYMBOLS..SYMBOLS + 1] {
+        let lists = full.iter().filter(|count| books.contains(count)).count();
+        assert!(lists >= 3, "{books:?}: {lists}");
     }
 }
 

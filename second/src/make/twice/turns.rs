@@ -15,11 +15,16 @@ use crate::record::KEPT_TRADES;
 use crate::wire::write::to_bytes;
 use crate::wire::{Body, Market, Message};
 
+/// A book that lacks no more orders than these is filled and overfilled.
+const NEARLY: usize = 16;
+
 pub struct Maker {
     pub source: Source,
     /// What a reader of the messages so far holds.
     reader: Reader,
     pub symbols: Vec<Asked>,
+    /// The adds of the books that are full at the start.
+    pub full: Vec<Vec<u8>>,
     pub messages: Vec<Vec<u8>>,
 }
 
@@ -30,6 +35,7 @@ impl Maker {
             source: Source::new(random, Market::Nyse),
             reader: Reader::new(Market::Nyse),
             symbols: Vec::new(),
+            full: Vec::new(),
             messages: Vec::new(),
         };
         while maker.symbols.len() < SYMBOLS {
@@ -46,13 +52,15 @@ impl Maker {
         maker
     }
 
-    /// So many messages. At times they begin with as many as fill a book, or nearly a record.
+    /// So many messages, at times behind those that fill some books. At times they begin with as many
+    /// as fill a record, or nearly so.
     pub fn make(&mut self, count: usize) {
-        let first = self.source.indices()[0];
-        match self.random().below(3) {
-            0 => self.fill_book(first),
-            1 => self.fill_record(first),
-            _ => {}
+        let books = self.random().pick(&[0, 1, 2, 2, SYMBOLS]);
+        for index in self.source.indices()[..books].to_vec() {
+            self.fill_book(index);
+        }
+        if self.random().one_in(3) {
+            self.fill_record(self.source.indices()[0]);
         }
         while self.messages.len() < count {
             self.turn();
@@ -90,9 +98,9 @@ impl Maker {
                 let bytes = self.damaged(index);
                 self.push(bytes);
             }
-            44..=46 => self.overfill_book(index),
-            47..=50 => self.go_and_come(index),
-            51..=75 => self.trade(index),
+            44..=49 => self.overfill_book(),
+            50..=53 => self.go_and_come(index),
+            54..=78 => self.trade(index),
             _ => {
                 let message = self.source.next_of(index);
                 self.send(&message);
@@ -231,20 +239,33 @@ impl Maker {
         }
     }
 
-    /// Adds until the book is full.
+    /// As many adds as fill a new book. A list has hardly more messages: they are not among them.
     fn fill_book(&mut self, index: u32) {
+        let adds = (0..LIVE_ORDERS).map(|_| self.source.next_add(index));
+        let bytes: Vec<u8> = adds.flat_map(|message| to_bytes(&message)).collect();
+        self.reader.run(&bytes, 0);
+        self.full.push(bytes);
+    }
+
+    /// A symbol with a full book, or nearly so.
+    fn nearly_full(&self) -> Option<u32> {
+        let mut indices = self.source.indices().iter().copied();
+        indices.find(|index| {
+            let live = self.source.live(*index).len();
+            live + NEARLY >= LIVE_ORDERS && !self.is_stale(*index)
+        })
+    }
+
+    /// The last adds of a full book, a replace in it, and one add too many, which the source does not
+    /// apply.
+    fn overfill_book(&mut self) {
+        let Some(index) = self.nearly_full() else {
+            return;
+        };
         for _ in self.source.live(index).len()..LIVE_ORDERS {
             let body = self.source.add_body(index);
             self.apply(index, body);
         }
-    }
-
-    /// A replace in a full book, and one add too many, which the source does not apply.
-    fn overfill_book(&mut self, index: u32) {
-        if self.is_stale(index) {
-            self.clear(index);
-        }
-        self.fill_book(index);
         if let Some(live) = self.source.live(index).last().copied() {
             let new_order = self.source.unused_order(index);
             let replace = self.source.replace_body(live, new_order, live.price);
