@@ -56,8 +56,8 @@ impl Maker {
     /// as fill a record, or nearly so.
     pub fn make(&mut self, count: usize) {
         let books = self.random().pick(&[0, 1, 2, 2, SYMBOLS]);
-        for index in self.source.indices()[..books].to_vec() {
-            self.fill_book(index);
+        for place in 0..books {
+            self.fill_book(self.source.indices()[place]);
         }
         if self.random().one_in(3) {
             self.fill_record(self.source.indices()[0]);
