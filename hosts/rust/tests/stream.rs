@@ -6,6 +6,9 @@ mod common;
 use common::{hosted, message, Symbol, BUY, REGULAR, SELL};
 use painterend::{Book, Ended, NYSE};
 
+/// As many orders as a symbol holds.
+const FULL: u32 = 256;
+
 /// The eight registered symbols, and one that is not.
 const SYMBOLS: [u32; 9] = [0, 1, 2, 7, 8, 255, 65_536, u32::MAX, 9];
 
@@ -72,6 +75,14 @@ impl Maker {
         }
     }
 
+    /// The adds of a new symbol until its book is full.
+    fn opening(&mut self, chance: &mut Chance) -> Vec<u8> {
+        self.next = FULL + 1;
+        (1..=FULL)
+            .flat_map(|number| self.add(number, chance))
+            .collect()
+    }
+
     fn clear(&mut self, chance: &mut Chance) -> Vec<u8> {
         self.live.clear();
         self.lost = false;
@@ -129,11 +140,12 @@ fn volume(chance: &mut Chance) -> u32 {
     100 + chance.small(50)
 }
 
-/// A made day of so many messages. Now and then one is lost, comes twice or is damaged.
+/// A made day: the first symbol's book is filled, and so many messages follow. Now and then one of
+/// these is lost, comes twice or is damaged.
 fn stream(seed: u64, count: usize) -> Vec<u8> {
     let mut chance = Chance(seed);
     let mut makers = SYMBOLS.map(Maker::new);
-    let mut bytes = Vec::new();
+    let mut bytes = makers[0].opening(&mut chance);
     for _ in 0..count {
         let place = chance.below(makers.len() as u64) as usize;
         let maker = &mut makers[place];
