@@ -235,7 +235,7 @@ mod tests {
         }
     }
 
-    /// Also one of 20 messages, which are fewer than fill a book.
+    /// Those of 20 messages too, which are fewer than fill a book.
     #[test]
     fn short_feeds_of_every_kind_meet_full_books() {
         for (name, kind) in FEED_KINDS {

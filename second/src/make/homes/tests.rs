@@ -95,7 +95,7 @@ fn messages_are_mostly_done() {
 }
 
 /// Every list has a full book. Of the messages that are no adds most find a book with at most
-/// eight free places; those that empty a full one, which are many, are the others.
+/// eight free places; many of the others are the deletes that empty one.
 #[test]
 fn books_are_mostly_near_full() {
     let mut free = Vec::new();

@@ -67,7 +67,7 @@ impl Source {
     }
 
     /// The next message of a symbol; it is applied here. A book that is to be full is cleared less
-    /// often before it is: a clear would mostly come first.
+    /// often until it is, or a clear would mostly come first.
     pub fn next_of(&mut self, index: u32) -> Message {
         let used_up = self.expected(index) > u64::from(u32::MAX);
         let filling = self.depth == LIVE_ORDERS && !self.is_deep(index);

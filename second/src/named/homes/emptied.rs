@@ -8,7 +8,7 @@ use crate::named::script::Script;
 /// All orders that are left are found after one deletion in so many.
 type Rate = usize;
 
-/// With all that are left of 256 found after each deletion, a file would be too long for the probe.
+/// After every fourth deletion: after each one, a file of 256 would be too long for the probe.
 const OFTEN: Rate = 4;
 
 pub fn scripts() -> Vec<Named> {
