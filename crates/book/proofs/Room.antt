@@ -1,6 +1,6 @@
 -- How many live orders a symbol has room for, with the numbers themselves: every rule speaks of `ordersEach`, and would hold of a wrong one.
 use mathlib.Core.Bool.{Bool, true, false}
-use mathlib.Core.List.{List, [], _∷_}
+use mathlib.Core.List.{[], _∷_}
 use mathlib.Core.Option.{Option, none, some}
 use mathlib.Core.Path.{_≡_, refl, ap, _∙_}
 use Prim.Native.Nat.{ℕ, zero, suc}
