@@ -1,6 +1,6 @@
 //! All the measures, and the table that shows them.
 
-use std::path::{Path, PathBuf};
+use std::path::PathBuf;
 use std::time::Duration;
 use std::{fs, io};
 
@@ -101,27 +101,34 @@ impl Plan {
         all.as_nanos() as f64 / self.messages as f64
     }
 
+    /// The worst ratio over the depths.
     fn time_programs(&self) -> Result<f64, String> {
-        let (file, empty) = (self.folder.join("feed"), self.folder.join("empty"));
-        let bytes = feed(SEED, LIVE_DEPTHS[0], &REGISTERED[..1], self.messages);
-        let written = fs::write(&file, bytes).and_then(|()| fs::write(&empty, []));
-        written.map_err(|error| error.to_string())?;
-        let times = self.programs_on(&file)?;
-        let starts = self.programs_on(&empty)?;
-        let heading = "program, the whole file";
+        let starts = self.programs_on(&[])?;
+        let mut worst: f64 = 0.0;
+        for depth in LIVE_DEPTHS {
+            let times = self.programs_on(&feed(SEED, depth, &REGISTERED[..1], self.messages))?;
+            self.print_programs(depth, &times, &starts);
+            worst = worst.max(ratio(times[0], times[1]));
+        }
+        Ok(worst)
+    }
+
+    fn print_programs(&self, depth: usize, times: &[Times; 2], starts: &[Times; 2]) {
+        let heading = format!("program at depth {depth}, the file");
         print!("{heading:<34}{:>11}{:>11}", "best ms", "median ms");
         println!("{:>14}", "an empty file");
-        for ((program, times), start) in self.programs.iter().zip(&times).zip(&starts) {
+        for ((program, times), start) in self.programs.iter().zip(times).zip(starts) {
             let [best, median, start] = [times.best, times.median, start.median].map(milliseconds);
             print!("  {:<32}{best:>11.1}{median:>11.1}", program.title);
             println!("{start:>14.1}");
         }
         println!();
-        Ok(ratio(times[0], times[1]))
     }
 
-    fn programs_on(&self, file: &Path) -> Result<[Times; 2], String> {
-        programs::time(&self.programs, file, self.program_rounds, &self.folder)
+    fn programs_on(&self, bytes: &[u8]) -> Result<[Times; 2], String> {
+        let file = self.folder.join("feed");
+        fs::write(&file, bytes).map_err(|error| error.to_string())?;
+        programs::time(&self.programs, &file, self.program_rounds, &self.folder)
     }
 
     fn feed(&self, depth: usize) -> Vec<u8> {
