@@ -18,6 +18,7 @@ use Rattle.places.specs.Places.{firstWhere, insert, look}
 use Rattle.places.proofs.Sorted.{length-insert}
 use Rattle.symbols.specs.State.{placeOf, foundIn, vacancyOf}
 use Rattle.symbols.specs.Registering.{nameBad, registered}
+use Rattle.symbols.specs.Turns.{counted}
 use Rattle.orders.specs.State.{ordersEach, noOrder, orderNumber}
 use Rattle.orders.specs.Rules.{orderOf, added, applyTo}
 use Rattle.orders.specs.declared.Order.{Order}
@@ -25,7 +26,7 @@ use Rattle.record.specs.Rules.{dealTo}
 use Rattle.record.specs.declared.Deal.{Deal}
 use Rattle.book.specs.State.{Symbol, View, symbolIn, liveOf, liveIn, newView, Fresh}
 use Rattle.book.specs.Registering.{registerOf}
-use Rattle.book.specs.Step.{madeStale, enacted, meeting, actOn, meant, stepOn, stepOf}
+use Rattle.book.specs.Step.{becomes, madeStale, enacted, meeting, actOn, meant, stepOn, stepOf}
 use Rattle.book.specs.declared.Book.{Book}
 use Rattle.book.specs.declared.acts.Effect.{Effect}
 use Rattle.book.proofs.Isolation.{own-symbol}
@@ -80,10 +81,10 @@ module _ (v : View) (d : Read) (live : ℕ) (a : AddsTo v d live) where
   by-room : meeting before act ≡ enacted before Deal.Nothing (ruled false false false (added (before .orders) new none (ltb live ordersEach)))
   by-room = in-turn before (a .index) (a .number) (a .price) (a .volume) live (a .buy) (a .not-stale) (a .not-live) (a .so-many)
 
-  -- what it comes to where there is room, and how many are live then
+  -- what it comes to where there is room: the symbol is a number on, with the new order among its orders, of which so many are live then
   pub record Added (then : ℕ) : Type 0 where
     pub answer : stepOf v d .answer ≡ 0
-    pub orders : liveIn (a .index) (stepOf v d .view) ≡ insert orderNumber new (before .orders)
+    pub there : symbolIn (a .index) (stepOf v d .view) ≡ some (becomes before (counted false (before .entry .standing)) (insert orderNumber new (before .orders)) (before .trades))
     pub so-many : length (liveIn (a .index) (stepOf v d .view)) ≡ then
 
   -- and where there is none: the symbol is stale and its record without the mark, with the orders that it had
@@ -96,8 +97,8 @@ module _ (v : View) (d : Read) where
   unfolding enacted ruled dealTo
   the-256th-is-added a =
       let is = by-room v d 255 a in
-      let orders : liveIn (a .index) (stepOf v d .view) ≡ insert orderNumber (new v d 255 a) (a .symbol .orders) = ap liveOf (stands v d 255 a) ∙ ap (λ r. r .symbol .orders) is in
-      record { answer = answers v d 255 a ∙ ap (λ r. r .answer) is; orders = orders; so-many = rw (orders, length-insert orderNumber (new v d 255 a) (a .symbol .orders), a .so-many) }
+      let there = stands v d 255 a ∙ ap (λ r. some (r .symbol)) is in
+      record { answer = answers v d 255 a ∙ ap (λ r. r .answer) is; there = there; so-many = ap (λ x. length (liveOf x)) there ∙ length-insert orderNumber (new v d 255 a) (a .symbol .orders) ∙ ap suc (a .so-many) }
 
   pub the-257th-answers-10 : (a : AddsTo v d 256) → NoRoom v d 256 a
   unfolding enacted ruled
