@@ -1,7 +1,9 @@
-//! The kept trades of one symbol: document 01, "The trade record".
+//! The kept trades and crosses of one symbol: document 01, "The trade record", and request M-102.
 
 /// A symbol keeps this many trades.
 pub const KEPT_TRADES: usize = 128;
+/// A symbol keeps this many crosses.
+pub const KEPT_CROSSES: usize = 16;
 
 #[derive(Clone, Copy, PartialEq, Eq, Debug)]
 pub struct Trade {
@@ -10,10 +12,18 @@ pub struct Trade {
     pub volume: u32,
 }
 
-/// Trades and the mark that none of the day is missing among them.
+/// Its number is a cross number: a trade may have the same.
+#[derive(Clone, Copy, PartialEq, Eq, Debug)]
+pub struct Cross {
+    pub number: u32,
+    pub volume: u32,
+}
+
+/// Trades, crosses, and the mark that none of the day is missing among them.
 #[derive(Clone)]
 pub struct Record {
     trades: Vec<Trade>,
+    crosses: Vec<Cross>,
     whole: bool,
 }
 
@@ -21,6 +31,7 @@ impl Record {
     pub fn new() -> Record {
         Record {
             trades: Vec::new(),
+            crosses: Vec::new(),
             whole: true,
         }
     }
@@ -44,6 +55,27 @@ impl Record {
         }
     }
 
+    /// Keeps a cross, of no shares too. One too many, or one whose number is kept, costs the mark
+    /// instead.
+    pub fn keep_cross(&mut self, cross: Cross) {
+        let is_kept = self.crosses.iter().any(|kept| kept.number == cross.number);
+        if self.crosses.len() >= KEPT_CROSSES || is_kept {
+            self.whole = false;
+            return;
+        }
+        self.crosses.push(cross);
+    }
+
+    /// Gives a cross another volume; it stays kept when that is 0. One that is not kept costs the
+    /// mark instead.
+    pub fn correct(&mut self, number: u32, volume: u32) {
+        let mut crosses = self.crosses.iter_mut();
+        match crosses.find(|kept| kept.number == number) {
+            Some(kept) => kept.volume = volume,
+            None => self.whole = false,
+        }
+    }
+
     pub fn lose_mark(&mut self) {
         self.whole = false;
     }
@@ -52,11 +84,11 @@ impl Record {
         self.whole
     }
 
+    /// The day's volume: that of the trades and that of the crosses.
     pub fn volume(&self) -> u64 {
-        self.trades
-            .iter()
-            .map(|trade| u64::from(trade.volume))
-            .sum()
+        let trades = self.trades.iter().map(|trade| trade.volume);
+        let crosses = self.crosses.iter().map(|cross| cross.volume);
+        trades.chain(crosses).map(u64::from).sum()
     }
 
     /// The kept trades, in no order that matters.

@@ -1,11 +1,11 @@
 //! One registered symbol and what a message does to it: document 01, "Numbers answered" from the
-//! check of the stale mark on, "The book" and "The trade record".
+//! check of the stale mark on, "The book" and "The trade record", and request M-102.
 
 use std::cmp::Ordering;
 
 use crate::answer::Refusal;
 use crate::book::{Book, Order, Side};
-use crate::record::{Record, Trade};
+use crate::record::{Cross, Record, Trade};
 use crate::wire::{Body, Message};
 
 #[derive(Clone)]
@@ -63,7 +63,7 @@ impl Symbol {
         Ok(())
     }
 
-    /// A clear leaves the kept trades; only its number can cost the mark.
+    /// A clear leaves the kept trades and crosses; only its number can cost the mark.
     fn clear(&mut self, next: u32) {
         let next = u64::from(next);
         if next != self.expected {
@@ -132,6 +132,11 @@ impl Symbol {
                 volume,
             }),
             Body::Cancel { trade } => self.record.cancel(trade),
+            Body::Cross { cross, volume, .. } => self.record.keep_cross(Cross {
+                number: cross,
+                volume,
+            }),
+            Body::Correction { cross, volume } => self.record.correct(cross, volume),
             _ => {}
         }
     }

@@ -1,6 +1,6 @@
 //! What is printed of the named cases of request M-110, line by line, written by hand by the rules of
 //! document 01. Sizes: an add has 39 bytes, a modify 35, a delete 25, an execute and a replace 42, a
-//! trade 33, a cancel and a clear 20, a retail 17.
+//! trade 33, a cross 29, a correction 24, a cancel and a clear 20, a retail 17.
 
 mod common;
 
@@ -377,22 +377,22 @@ S,9,39\nS,8,33\nS,0,20\nS,0,39\nS,0,33
     assert_eq!(probed("every-answer-between-good-messages"), lines);
 }
 
-/// Size, quote and volume of each type behind an order and a trade, and the quote when number 4 is a
-/// sell at 2,000.
+/// Size, quote and volume of each type behind an order, a trade of 5 shares and a cross of 100, and the
+/// quote when number 5 is a sell at 2,000.
 const ALONE: [(u32, &str, &str, &str); 13] = [
-    (39, "1000,10,1001,7", "5,1", "1000,10,1001,7"),
-    (35, "1002,20,,", "5,1", "1002,20,2000,1"),
-    (25, ",,,", "5,1", ",,2000,1"),
-    (42, "1000,6,,", "9,1", "1000,6,2000,1"),
-    (42, "1003,30,,", "5,1", "1003,30,2000,1"),
-    (73, "1000,10,,", "5,1", "1000,10,2000,1"),
-    (33, "1000,10,,", "11,1", "1000,10,2000,1"),
-    (29, "1000,10,,", "5,1", "1000,10,2000,1"),
-    (20, "1000,10,,", "0,1", "1000,10,2000,1"),
-    (24, "1000,10,,", "5,1", "1000,10,2000,1"),
-    (17, "1000,10,,", "5,1", "1000,10,2000,1"),
-    (20, ",,,", "5,0", ",,2000,1"),
-    (46, "1000,10,,", "5,1", "1000,10,2000,1"),
+    (39, "1000,10,1001,7", "105,1", "1000,10,1001,7"),
+    (35, "1002,20,,", "105,1", "1002,20,2000,1"),
+    (25, ",,,", "105,1", ",,2000,1"),
+    (42, "1000,6,,", "109,1", "1000,6,2000,1"),
+    (42, "1003,30,,", "105,1", "1003,30,2000,1"),
+    (73, "1000,10,,", "105,1", "1000,10,2000,1"),
+    (33, "1000,10,,", "111,1", "1000,10,2000,1"),
+    (29, "1000,10,,", "155,1", "1000,10,2000,1"),
+    (20, "1000,10,,", "100,1", "1000,10,2000,1"),
+    (24, "1000,10,,", "65,1", "1000,10,2000,1"),
+    (17, "1000,10,,", "105,1", "1000,10,2000,1"),
+    (20, ",,,", "105,0", ",,2000,1"),
+    (46, "1000,10,,", "105,1", "1000,10,2000,1"),
 ];
 
 #[test]
@@ -404,7 +404,7 @@ fn each_type_alone() {
         let lines = ALONE.map(|(size, quote, volume, last)| {
             format!(
                 "\
-N\nG,0\nS,0,39\nS,0,33
+N\nG,0\nS,0,39\nS,0,33\nS,0,29
 {done},{size}\nQ,0,{quote}\nV,0,{volume}
 S,0,39\nQ,0,{last}\nV,0,{volume}
 "

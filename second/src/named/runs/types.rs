@@ -5,27 +5,31 @@ use crate::make::messages::*;
 use crate::named::Cases;
 use crate::wire::Message;
 
-/// An order and a trade, which the message of a type finds.
-fn found() -> [Message; 2] {
-    [add(1, 1, BUY, 1000, 10), trade(2, 1, 5, 1)]
+/// An order, a trade and a cross, which the message of a type finds.
+fn found() -> [Message; 3] {
+    [
+        add(1, 1, BUY, 1000, 10),
+        trade(2, 1, 5, 1),
+        cross(3, 1, 1000, 100),
+    ]
 }
 
-/// A message of each type that is done behind those two, in the order of the table.
+/// A message of each type that is done behind those three, in the order of the table.
 fn each() -> [Message; 13] {
     [
-        add(3, 2, SELL, 1001, 7),
-        modify(3, 1, BUY, 1002, 20),
-        delete(3, 1),
-        print_execute(3, 1, 2, 900, 4),
-        replace(3, 1, 2, BUY, 1003, 30),
-        imbalance(3),
-        trade(3, 2, 6, 1),
-        cross(3, 1, 1000, 50),
-        cancel(3, 1),
-        correction(3, 1, 60),
-        retail(3),
-        clear(4),
-        status(3),
+        add(4, 2, SELL, 1001, 7),
+        modify(4, 1, BUY, 1002, 20),
+        delete(4, 1),
+        print_execute(4, 1, 2, 900, 4),
+        replace(4, 1, 2, BUY, 1003, 30),
+        imbalance(4),
+        trade(4, 2, 6, 1),
+        cross(4, 2, 1000, 50),
+        cancel(4, 1),
+        correction(4, 1, 60),
+        retail(4),
+        clear(5),
+        status(4),
     ]
 }
 
@@ -54,7 +58,7 @@ fn push_alone(calls: &mut CallList, message: Message, apply: Apply) {
     apply(calls, &[message]);
     calls.quote(ABC);
     calls.volume(ABC);
-    calls.step_messages(&[add(4, 9, SELL, 2000, 1)]);
+    calls.step_messages(&[add(5, 9, SELL, 2000, 1)]);
     calls.quote(ABC);
     calls.volume(ABC);
 }
