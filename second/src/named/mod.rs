@@ -6,6 +6,7 @@ mod bad_fields;
 mod book;
 mod codes;
 mod conditions;
+mod crosses;
 mod day;
 mod fields;
 mod full;
@@ -48,6 +49,7 @@ impl Cases {
         full::add_to(&mut cases);
         homes::add_to(&mut cases);
         record::add_to(&mut cases);
+        crosses::add_to(&mut cases);
         registering::add_to(&mut cases);
         page::add_to(&mut cases);
         stream::add_to(&mut cases);

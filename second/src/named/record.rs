@@ -1,22 +1,22 @@
-//! Corners of the trade record. The program does not print it, so these are calls of the probe.
+//! Corners of the kept trades. The program does not print them, so these are calls of the probe.
 
 use super::Cases;
 use crate::make::messages::*;
 use crate::wire::Message;
 
 /// Printed trades from that number on, trade 1 with volume 1, trade 2 with volume 2 and so on.
-fn trades(from: u32, count: u32) -> Vec<Message> {
+pub fn trades(from: u32, count: u32) -> Vec<Message> {
     (1..=count)
         .map(|place| trade(from + place - 1, place, place, 1))
         .collect()
 }
 
-/// Some trades in a run, then a step for each message with the volume after it; and all at once.
-fn told_after(cases: &mut Cases, name: &str, trades: &[Message], messages: &[Message]) {
-    cases.at_once(name, &[trades, messages].concat());
+/// Some messages in a run, then a step for each other one with the volume after it; and all at once.
+pub fn told_after(cases: &mut Cases, name: &str, before: &[Message], messages: &[Message]) {
+    cases.at_once(name, &[before, messages].concat());
     cases.calls_on_abc(name, |calls| {
-        if !trades.is_empty() {
-            calls.run_messages(trades);
+        if !before.is_empty() {
+            calls.run_messages(before);
             calls.volume(ABC);
         }
         for message in messages {
@@ -26,8 +26,8 @@ fn told_after(cases: &mut Cases, name: &str, trades: &[Message], messages: &[Mes
     });
 }
 
-/// The same without trades before.
-fn told(cases: &mut Cases, name: &str, messages: &[Message]) {
+/// The same without messages before.
+pub fn told(cases: &mut Cases, name: &str, messages: &[Message]) {
     told_after(cases, name, &[], messages);
 }
 
@@ -176,17 +176,6 @@ fn kinds(cases: &mut Cases) {
         cases,
         "an-execution-that-does-not-fit",
         &[add(1, 1, BUY, 1000, 10), print_execute(2, 1, 5, 900, 11)],
-    );
-    told(
-        cases,
-        "crosses-record-nothing",
-        &[
-            cross(1, 1, 1000, 500),
-            correction(2, 1, 400),
-            correction(3, 77, 1),
-            cross(4, 1, 1000, 500),
-            cancel(5, 1),
-        ],
     );
     told(
         cases,

@@ -3,6 +3,7 @@
 
 mod amid;
 mod answers;
+mod crosses;
 mod edges;
 mod types;
 mod unregistered;
@@ -33,6 +34,7 @@ fn lists() -> Vec<Twice> {
     [
         amid::lists(),
         answers::lists(),
+        crosses::lists(),
         edges::lists(),
         unregistered::lists(),
     ]
