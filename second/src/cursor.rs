@@ -2,6 +2,7 @@
 
 use crate::wire::bytes::array_at;
 
+#[derive(Clone)]
 pub struct Cursor<'a> {
     rest: &'a [u8],
 }

@@ -44,6 +44,46 @@ pub(crate) fn watch(calls: &[u8], mut look: impl FnMut(&Reader)) {
     }
 }
 
+/// What a call does: apply a message that reads, or ask for the volume of a symbol.
+#[cfg(test)]
+pub(crate) enum Deed {
+    Apply(Message),
+    Ask(u32),
+}
+
+/// Makes the calls and looks at each deed, with the state before it.
+#[cfg(test)]
+pub(crate) fn watch_deeds(calls: &[u8], mut look: impl FnMut(&Reader, Deed)) {
+    let mut reader = Reader::new(Market::Nyse);
+    let mut cursor = Cursor::new(calls);
+    while !cursor.is_empty() {
+        let mut fields = cursor.clone();
+        let letter = fields.u8();
+        if let (Some(b'V'), Some(index)) = (letter, fields.clone().u32()) {
+            look(&reader, Deed::Ask(index));
+        }
+        match (letter, fields.u16().zip(fields.counted())) {
+            (Some(b'S' | b'X'), Some((at, stream))) => {
+                let mut at = usize::from(at);
+                loop {
+                    let (next, message) = read(reader.market(), stream, at);
+                    if let Ok(message) = message {
+                        look(&reader, Deed::Apply(message));
+                        let _ = reader.apply(&message);
+                    }
+                    if next == at || letter == Some(b'S') {
+                        break;
+                    }
+                    at = next;
+                }
+                cursor = fields;
+            }
+            _ if call(&mut reader, &mut cursor).is_none() => return,
+            _ => {}
+        }
+    }
+}
+
 fn call(reader: &mut Reader, cursor: &mut Cursor) -> Option<String> {
     match cursor.u8()? {
         b'N' => {

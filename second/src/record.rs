@@ -96,6 +96,11 @@ impl Record {
         &self.trades
     }
 
+    /// The kept crosses, in no order that matters.
+    pub fn crosses(&self) -> &[Cross] {
+        &self.crosses
+    }
+
     fn find(&self, number: u32) -> Option<usize> {
         self.trades.iter().position(|trade| trade.number == number)
     }

@@ -1,5 +1,6 @@
 //! Lists of calls of every kind, from a seed.
 
+use super::auctions;
 use super::call_list::CallList;
 use super::call_maker::Maker;
 use super::fills;
@@ -80,7 +81,8 @@ pub(super) fn list(seed: u64, kind: CallKind, count: usize) -> CallList {
 }
 
 /// Registers some symbols, eight where books are to be full, and then tries a ninth. Books of few
-/// families begin near full; of other states one in five begins with a full book.
+/// families begin near full; of other states one in five begins with a full book, and one in five with
+/// all of its crosses or nearly so.
 fn begin(maker: &mut Maker, kind: CallKind) {
     let symbols = match kind {
         CallKind::Full => SYMBOLS,
@@ -102,6 +104,9 @@ fn begin(maker: &mut Maker, kind: CallKind) {
         _ if maker.random().one_in(5) => fills::begin(maker),
         _ => {}
     }
+    if kind != CallKind::Homes && maker.random().one_in(5) {
+        auctions::begin(maker);
+    }
 }
 
 fn begin_again(maker: &mut Maker, kind: CallKind) {
@@ -113,7 +118,11 @@ fn begin_again(maker: &mut Maker, kind: CallKind) {
 fn push(maker: &mut Maker, kind: CallKind) {
     maker.source.draw.edges = kind == CallKind::Edges;
     maker.source.clears = if kind == CallKind::Edges { 25 } else { 120 };
-    let states = if maker.any_market { 60 } else { 400 };
+    let states = match kind {
+        _ if maker.any_market => 60,
+        CallKind::Plain | CallKind::Edges => 100,
+        _ => 400,
+    };
     if maker.source.indices().is_empty() || maker.random().one_in(states) {
         return begin_again(maker, kind);
     }
@@ -129,7 +138,7 @@ fn push(maker: &mut Maker, kind: CallKind) {
 }
 
 fn push_plain(maker: &mut Maker) {
-    match maker.random().below(20) {
+    match maker.random().below(22) {
         0..=5 => {
             let bytes = maker.next_message();
             maker.step(&bytes);
@@ -153,7 +162,8 @@ fn push_plain(maker: &mut Maker) {
             maker.read(&to_bytes(&message));
         }
         17 => outputs::push_write(maker, false),
-        _ => outputs::push_line(maker, false),
+        18 | 19 => outputs::push_line(maker, false),
+        _ => auctions::push(maker),
     }
 }
 

@@ -12,6 +12,7 @@ use crate::answer::Refusal;
 use crate::book::LIVE_ORDERS;
 use crate::program::new_reader;
 use crate::reader::Reader;
+use crate::record::KEPT_CROSSES;
 use crate::wire::write::to_bytes;
 use crate::wire::{Body, Market, Message};
 
@@ -40,9 +41,10 @@ pub const FEED_KINDS: [(&str, FeedKind); 8] = [
 ];
 
 /// A feed of `count` messages of NYSE, the program's market. Only index 7 is registered where the
-/// program reads it. One feed in five begins with the adds of a full book, which are not counted.
+/// program reads it. One feed in five, of misfits two, begins with the adds of a full book, and one in
+/// five with as many crosses as are kept; these are not counted.
 pub fn feed(seed: u64, kind: FeedKind, count: usize) -> Vec<u8> {
-    let mut maker = Maker::new(Random::new(seed, &format!("feed {kind:?}")));
+    let mut maker = Maker::new(Random::new(seed, &format!("feed {kind:?}")), kind);
     let mut now = kind;
     for _ in 0..count {
         if kind == FeedKind::Mixed && (now == kind || maker.random().one_in(25)) {
@@ -65,12 +67,17 @@ struct Maker {
 }
 
 impl Maker {
-    fn new(random: Random) -> Maker {
+    fn new(random: Random, kind: FeedKind) -> Maker {
         let mut source = Source::new(random, Market::Nyse);
         for index in [ABC, 8, 0, u32::MAX, 0x0700_0000] {
             let _ = source.register(index, 4, b"ABC");
         }
-        let depth = source.draw.random.pick(&DEPTHS);
+        // The first message that does not fit a full book is the last that finds it full.
+        let depth = if kind == FeedKind::Misfit && source.draw.random.one_in(4) {
+            LIVE_ORDERS
+        } else {
+            source.draw.random.pick(&DEPTHS)
+        };
         source.aim_at(depth);
         let mut maker = Maker {
             source,
@@ -80,6 +87,9 @@ impl Maker {
         if depth == LIVE_ORDERS {
             maker.fill();
         }
+        if maker.random().one_in(5) {
+            maker.fill_crosses();
+        }
         maker
     }
 
@@ -87,6 +97,15 @@ impl Maker {
     fn fill(&mut self) {
         for _ in 0..LIVE_ORDERS {
             let message = self.source.next_add(ABC);
+            let bytes = self.sent(message);
+            self.push(&bytes);
+        }
+    }
+
+    /// Crosses until ABC keeps no more: the next one is done too.
+    fn fill_crosses(&mut self) {
+        for _ in 0..KEPT_CROSSES {
+            let message = self.source.next_cross(ABC);
             let bytes = self.sent(message);
             self.push(&bytes);
         }
@@ -183,11 +202,14 @@ impl Maker {
 
 #[cfg(test)]
 mod tests {
-    use super::{feed, FeedKind, ABC, FEED_KINDS, LIVE_ORDERS};
-    use crate::answer::number;
+    use super::{feed, FeedKind, ABC, FEED_KINDS, KEPT_CROSSES, LIVE_ORDERS};
+    use crate::answer::{number, Refusal};
     use crate::program::new_reader;
-    use crate::wire::extent;
+    use crate::symbol::Symbol;
     use crate::wire::message::TYPES;
+    use crate::wire::{extent, Body, Message};
+
+    type Answer = Result<Message, Refusal>;
 
     #[test]
     fn a_seed_gives_one_feed_and_every_type() {
@@ -216,22 +238,48 @@ mod tests {
         shorter.chain(longer).collect()
     }
 
-    /// What is answered where the book of ABC is full.
-    fn answers_when_full(bytes: &[u8]) -> Vec<u8> {
+    /// What is answered where ABC has the property.
+    fn answers_when(bytes: &[u8], property: impl Fn(&Symbol) -> bool) -> Vec<Answer> {
         let mut program = new_reader();
         let mut answers = Vec::new();
         let mut at = 0;
         loop {
             let abc = program.symbol(ABC).expect("the program registers it");
-            let is_full = abc.book.orders().len() == LIVE_ORDERS;
+            let is_told = property(abc);
             let (next, done) = program.step(bytes, at);
             if next == at {
                 return answers;
             }
-            if is_full {
-                answers.push(number(&done));
+            if is_told {
+                answers.push(done);
             }
             at = next;
+        }
+    }
+
+    /// What is answered where the book of ABC is full.
+    fn answers_when_full(bytes: &[u8]) -> Vec<u8> {
+        let is_full = |abc: &Symbol| abc.book.orders().len() == LIVE_ORDERS;
+        let answers = answers_when(bytes, is_full);
+        answers.iter().map(number).collect()
+    }
+
+    /// Whether a cross of ABC is done where 16 are kept.
+    fn crosses_past_16(bytes: &[u8]) -> bool {
+        let is_full = |abc: &Symbol| abc.record.crosses().len() == KEPT_CROSSES;
+        let answers = answers_when(bytes, is_full);
+        answers
+            .iter()
+            .flatten()
+            .any(|message| message.index == ABC && matches!(message.body, Body::Cross { .. }))
+    }
+
+    #[test]
+    fn short_feeds_have_more_crosses_than_are_kept() {
+        for kind in [FeedKind::Valid, FeedKind::Misfit, FeedKind::Mixed] {
+            let feeds = short_feeds(kind);
+            let count = feeds.iter().filter(|bytes| crosses_past_16(bytes)).count();
+            assert!(count >= 3, "{kind:?}: {count}");
         }
     }
 

@@ -1,5 +1,6 @@
 //! Calls that fill books and records to the last place, and one past it.
 
+use super::auctions;
 use super::call_maker::Maker;
 use super::source::side_byte;
 use super::strays::stray;
@@ -18,7 +19,7 @@ pub fn begin(maker: &mut Maker) {
 
 pub fn push_fill(maker: &mut Maker) {
     let index = maker.source.index();
-    match maker.random().below(8) {
+    match maker.random().below(11) {
         0 => {
             // Eight full symbols hold 2,048 orders.
             for index in maker.source.indices().to_vec() {
@@ -33,6 +34,12 @@ pub fn push_fill(maker: &mut Maker) {
         4 | 5 => {
             fill_book(maker, index);
             at_the_brim(maker, index);
+        }
+        6 => auctions::fill(maker, index),
+        7 => auctions::fill_past(maker, index),
+        8 => {
+            fill_record(maker, index);
+            auctions::fill(maker, index);
         }
         _ => {
             fill_book(maker, index);
@@ -104,7 +111,7 @@ fn fill_record_past(maker: &mut Maker, index: u32) {
 }
 
 /// The next message of a symbol with that body; none when its numbers are used up.
-fn push_body(maker: &mut Maker, index: u32, body: Body, bytes: &mut Vec<u8>) {
+pub fn push_body(maker: &mut Maker, index: u32, body: Body, bytes: &mut Vec<u8>) {
     if let Ok(number) = u32::try_from(maker.source.expected(index)) {
         let message = maker.source.message(index, number, body);
         maker.source.apply(message);

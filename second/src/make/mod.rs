@@ -1,5 +1,6 @@
 //! Makers of test input: messages, feeds, lists of calls.
 
+mod auctions;
 mod bad_draws;
 pub mod bad_fields;
 pub(crate) mod call_list;

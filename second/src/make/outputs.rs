@@ -61,7 +61,7 @@ fn line_message(maker: &mut Maker, faults: bool) -> Message {
     let body = if maker.random().one_in(2) {
         maker.source.add_body(index)
     } else {
-        maker.source.cross_body()
+        maker.source.cross_body(index)
     };
     maker.source.message(index, number, body)
 }

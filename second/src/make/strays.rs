@@ -42,7 +42,7 @@ fn misnumbered(source: &mut Source, message: Message) -> Message {
 /// A body that does not fit the book, or that finds it full.
 fn misfit(source: &mut Source, index: u32) -> Body {
     let live = source.live(index).len();
-    if live == LIVE_ORDERS && source.draw.random.one_in(2) {
+    if live == LIVE_ORDERS && !source.draw.random.one_in(3) {
         return one_too_many(source, index);
     }
     if live == 0 || source.draw.random.one_in(4) {
@@ -96,11 +96,11 @@ fn misfit(source: &mut Source, index: u32) -> Body {
     }
 }
 
-/// An add in a full book, of an order that is live or of one that is not.
+/// An add in a full book, mostly of an order that is not live.
 fn one_too_many(source: &mut Source, index: u32) -> Body {
     let mut body = source.add_body(index);
     if let Body::Add { order, .. } = &mut body {
-        if source.draw.random.one_in(2) {
+        if source.draw.random.one_in(3) {
             let place = source.draw.random.below(LIVE_ORDERS);
             *order = source.live(index)[place].number;
         }

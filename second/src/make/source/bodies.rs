@@ -128,12 +128,9 @@ impl Source {
     pub fn other_body(&mut self, index: u32) -> Body {
         match self.draw.random.below(9) {
             0 | 1 => self.trade_body(),
-            2 | 3 => self.cross_body(),
+            2 | 3 => self.cross_body(index),
             4 => self.cancel_body(index),
-            5 => Body::Correction {
-                cross: self.draw.id(),
-                volume: self.draw.cross_volume(),
-            },
+            5 => self.correction_body(index),
             6 => Body::Retail {
                 indicator: self.draw.letter(),
             },
@@ -145,15 +142,6 @@ impl Source {
                 seconds: self.draw.seconds(),
                 plain: self.draw.random.array(),
             },
-        }
-    }
-
-    pub fn cross_body(&mut self) -> Body {
-        Body::Cross {
-            cross: self.draw.id(),
-            price: self.draw.price(b'S'),
-            volume: self.draw.cross_volume(),
-            cross_type: self.draw.letter(),
         }
     }
 

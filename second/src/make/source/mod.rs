@@ -1,7 +1,9 @@
 //! A source of messages that a reader of all of them applies: it keeps a reader of its own, so that
-//! modifies, deletes, executions and replaces meet live orders.
+//! modifies, deletes, executions and replaces meet live orders, and cancels and corrections what is
+//! kept.
 
 mod bodies;
+mod crosses;
 
 use super::draw::Draw;
 use super::random::Random;
@@ -60,6 +62,13 @@ impl Source {
         trades.iter().map(|trade| trade.number).collect()
     }
 
+    /// The numbers of the crosses that are kept.
+    pub fn kept_crosses(&self, index: u32) -> Vec<u32> {
+        let symbol = self.reader.symbol(index);
+        let crosses = symbol.map_or(&[][..], |symbol| symbol.record.crosses());
+        crosses.iter().map(|cross| cross.number).collect()
+    }
+
     /// The next message of any symbol; it is applied here.
     pub fn next(&mut self) -> Message {
         let index = self.index();
@@ -86,8 +95,18 @@ impl Source {
 
     /// An add of a symbol in its turn; it is applied here.
     pub fn next_add(&mut self, index: u32) -> Message {
-        let number = self.number(index);
         let body = self.add_body(index);
+        self.next_with(index, body)
+    }
+
+    /// A cross of a symbol in its turn, with a number that is not kept; it is applied here.
+    pub fn next_cross(&mut self, index: u32) -> Message {
+        let body = self.new_cross_body(index);
+        self.next_with(index, body)
+    }
+
+    fn next_with(&mut self, index: u32, body: Body) -> Message {
+        let number = self.number(index);
         let message = self.message(index, number, body);
         self.apply(message)
     }

@@ -233,13 +233,18 @@ fn records_fill_up_and_lose_trades() {
     assert!(counts.iter().all(|count| *count >= 10), "{counts:?}");
 }
 
-/// Trade numbers and indices of symbols, registered and not.
+/// Numbers of trades and of crosses, and indices of symbols, registered and not.
 #[test]
 fn numbers_at_the_edges_come() {
     let runs = runs();
     for edge in [0, u32::MAX] {
+        let is_edge = |body: &Body| match *body {
+            Body::Cross { cross, .. } | Body::Correction { cross, .. } => cross == edge,
+            _ => false,
+        };
         let counts = [
             count(&runs, |told| printed(told) == Some(edge)),
+            count(&runs, |told| told.is_done(is_edge)),
             count(&runs, |told| told.answer == 0 && told.index() == Some(edge)),
             count(&runs, |told| told.answer == 5 && told.index() == Some(edge)),
         ];

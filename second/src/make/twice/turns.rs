@@ -11,7 +11,7 @@ use crate::make::registers::{self, Asked};
 use crate::make::source::Source;
 use crate::make::strays::stray;
 use crate::reader::{Reader, SYMBOLS};
-use crate::record::KEPT_TRADES;
+use crate::record::{KEPT_CROSSES, KEPT_TRADES};
 use crate::wire::write::to_bytes;
 use crate::wire::{Body, Market, Message};
 
@@ -53,7 +53,7 @@ impl Maker {
     }
 
     /// So many messages, at times behind those that fill some books. At times they begin with as many
-    /// as fill a record, or nearly so.
+    /// as fill a record, or nearly so, and at times with as many crosses as there are places for.
     pub fn make(&mut self, count: usize) {
         let books = self.random().pick(&[0, 1, 2, 2, SYMBOLS]);
         for place in 0..books {
@@ -61,6 +61,10 @@ impl Maker {
         }
         if self.random().one_in(3) {
             self.fill_record(self.source.indices()[0]);
+        }
+        if self.random().one_in(3) {
+            let place = self.random().pick(&[0, SYMBOLS - 1]);
+            self.fill_crosses(self.source.indices()[place]);
         }
         while self.messages.len() < count {
             self.turn();
@@ -101,6 +105,7 @@ impl Maker {
             44..=49 => self.overfill_book(),
             50..=53 => self.go_and_come(index),
             54..=78 => self.trade(index),
+            79..=95 => self.auction(index),
             _ => {
                 let message = self.source.next_of(index);
                 self.send(&message);
@@ -236,6 +241,33 @@ impl Maker {
         }
         for _ in 0..5 {
             self.trade(index);
+        }
+    }
+
+    /// A cross or a correction; at times the number of the cross is at an edge.
+    fn auction(&mut self, index: u32) {
+        let mut body = if self.random().one_in(2) {
+            self.source.cross_body(index)
+        } else {
+            self.source.correction_body(index)
+        };
+        if let Body::Cross { cross, .. } | Body::Correction { cross, .. } = &mut body {
+            if self.random().one_in(10) {
+                *cross = self.random().pick(&[0, u32::MAX]);
+            }
+        }
+        self.apply(index, body);
+    }
+
+    /// Crosses until all are kept or nearly so, and some more crosses and corrections.
+    fn fill_crosses(&mut self, index: u32) {
+        let free = self.random().below(3);
+        for _ in self.source.kept_crosses(index).len()..KEPT_CROSSES - free {
+            let body = self.source.new_cross_body(index);
+            self.apply(index, body);
+        }
+        for _ in 0..5 {
+            self.auction(index);
         }
     }
 
