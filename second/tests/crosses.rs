@@ -79,6 +79,14 @@ fn a_repeated_number() {
         "a-repeated-cross-of-another-volume",
         "0,29:5,1 0,29:5,0 0,17:5,0",
     );
+    for place in ["first", "last"] {
+        assert_told(
+            &format!("the-{place}-of-15-crosses-repeated"),
+            Some((435, "120,1")),
+            "0,29:120,0 0,29:136,0",
+            NONE,
+        );
+    }
     assert_full("a-repeated-cross-in-a-full-list", "0,29:136,0 0,24:155,0");
     assert_full(
         "the-last-cross-repeated-in-a-full-list",
@@ -145,13 +153,19 @@ fn crosses_of_no_shares_have_places() {
     );
 }
 
-/// 128 trades have 8,256 shares.
+/// 128 trades have 8,256 shares, 126 have 8,001.
 #[test]
 fn trades_and_crosses_have_their_own_places() {
     assert_told(
         "a-full-record-keeps-crosses",
         Some((4224, "8256,1")),
         "0,29:9256,1 0,24:10256,1 0,33:10256,0 0,29:10356,0",
+        NONE,
+    );
+    assert_told(
+        "128-trades-behind-16-crosses",
+        Some((4622, "8137,1")),
+        "0,33:8264,1 0,33:8392,1 0,33:8392,0",
         NONE,
     );
     assert_full(

@@ -43,6 +43,17 @@ pub fn add_to(cases: &mut Cases) {
             &[cross(17, number, 1000, 50), correction(18, number, 20)],
         );
     }
+    for (name, number) in [
+        ("the-first-of-15-crosses-repeated", 1),
+        ("the-last-of-15-crosses-repeated", 15),
+    ] {
+        told_after(
+            cases,
+            name,
+            &crosses(1, 15),
+            &[cross(16, number, 1000, 50), cross(17, 16, 1000, 16)],
+        );
+    }
     told_after(
         cases,
         "16-crosses-of-0",
@@ -96,6 +107,14 @@ fn both_lists(cases: &mut Cases) {
             cross(20, 17, 1000, 50),
             trade(21, 19, 300, 1),
         ],
+    );
+    let mut trades = trades(17, 128);
+    let last = trades.split_off(126);
+    told_after(
+        cases,
+        "128-trades-behind-16-crosses",
+        &[crosses(1, 16), trades].concat(),
+        &[last, vec![trade(145, 129, 129, 1)]].concat(),
     );
     largest(cases);
 }
