@@ -23,12 +23,12 @@ fn answers(bytes: &[u8]) -> Vec<Result<Message, Refusal>> {
     }
 }
 
-/// A feed may begin with the 256 adds of a full book, and with 16 crosses.
+/// A feed may begin with the 256 adds of a full book, and with 17 crosses.
 #[test]
 fn a_valid_feed_is_refused_for_other_symbols_alone() {
     for seed in 1..=40 {
         let answers = answers(&feed(seed, FeedKind::Valid, 150));
-        assert!([150, 166, 406, 422].contains(&answers.len()), "{seed}");
+        assert!([150, 167, 406, 423].contains(&answers.len()), "{seed}");
         let refused = answers.iter().filter_map(|answer| answer.err());
         let others: Vec<_> = refused
             .filter(|refusal| *refusal != Refusal::Symbol)

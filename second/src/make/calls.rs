@@ -120,7 +120,8 @@ fn push(maker: &mut Maker, kind: CallKind) {
     maker.source.clears = if kind == CallKind::Edges { 25 } else { 120 };
     let states = match kind {
         _ if maker.any_market => 60,
-        CallKind::Plain | CallKind::Edges => 100,
+        CallKind::Plain | CallKind::Edges => 60,
+        CallKind::Full => 150,
         _ => 400,
     };
     if maker.source.indices().is_empty() || maker.random().one_in(states) {
@@ -168,7 +169,7 @@ fn push_plain(maker: &mut Maker) {
 }
 
 fn push_fault(maker: &mut Maker) {
-    match maker.random().below(20) {
+    match maker.random().below(22) {
         0..=3 => {
             let registered = maker.source.indices().to_vec();
             let asked = registers::faulty(maker.random(), &registered);
@@ -194,6 +195,7 @@ fn push_fault(maker: &mut Maker) {
         13..=14 => outputs::push_write(maker, true),
         15..=16 => outputs::push_line(maker, true),
         17 if maker.random().one_in(4) => begin_again(maker, CallKind::Faults),
+        18 | 19 => auctions::push(maker),
         _ => push_plain(maker),
     }
 }

@@ -42,7 +42,7 @@ pub const FEED_KINDS: [(&str, FeedKind); 8] = [
 
 /// A feed of `count` messages of NYSE, the program's market. Only index 7 is registered where the
 /// program reads it. One feed in five, of misfits two, begins with the adds of a full book, and one in
-/// five with as many crosses as are kept; these are not counted.
+/// five with 17 crosses; these are not counted.
 pub fn feed(seed: u64, kind: FeedKind, count: usize) -> Vec<u8> {
     let mut maker = Maker::new(Random::new(seed, &format!("feed {kind:?}")), kind);
     let mut now = kind;
@@ -102,9 +102,9 @@ impl Maker {
         }
     }
 
-    /// Crosses until ABC keeps no more: the next one is done too.
+    /// One cross more than ABC keeps: it is done too.
     fn fill_crosses(&mut self) {
-        for _ in 0..KEPT_CROSSES {
+        for _ in 0..=KEPT_CROSSES {
             let message = self.source.next_cross(ABC);
             let bytes = self.sent(message);
             self.push(&bytes);

@@ -7,12 +7,12 @@ use super::call_maker::Maker;
 use super::fills::push_body;
 use crate::record::KEPT_CROSSES;
 
-/// The first symbol has its 16 crosses, or nearly so.
+/// The first symbol has its 16 crosses, or nearly so; some more crosses and corrections follow.
 pub fn begin(maker: &mut Maker) {
     if let Some(first) = maker.source.indices().first().copied() {
         let free = maker.random().below(3);
         fill_but(maker, first, free);
-        maker.list.volume(first);
+        push_some(maker, first);
     }
 }
 
@@ -30,6 +30,10 @@ pub fn fill(maker: &mut Maker, index: u32) {
 /// The 16 crosses, then crosses that find no place, and corrections.
 pub fn fill_past(maker: &mut Maker, index: u32) {
     fill(maker, index);
+    push_some(maker, index);
+}
+
+fn push_some(maker: &mut Maker, index: u32) {
     maker.list.volume(index);
     for _ in 0..4 {
         step(maker, index);

@@ -2,7 +2,7 @@
 //! not, and a symbol that keeps 16.
 
 use crate::make::calls::{calls, CallKind, CALL_KINDS};
-use crate::probe::{watch_deeds, Deed};
+use crate::probe::{probe, watch_deeds, Deed};
 use crate::reader::Reader;
 use crate::record::KEPT_CROSSES;
 use crate::symbol::Symbol;
@@ -93,53 +93,65 @@ fn counts(all: &[(bool, Met)], wanted: &[Met]) -> [usize; 2] {
     ]
 }
 
-fn assert_met(kind: CallKind, least: &[(&[Met], [usize; 2])]) {
+fn assert_met(kind: CallKind, wanted: &[&[Met]], least: &[[usize; 2]]) {
     let all = all_met(kind);
-    for (wanted, least) in least {
+    for (wanted, least) in wanted.iter().zip(least) {
         let counts = counts(&all, wanted);
-        let enough = counts
-            .iter()
-            .zip(least)
-            .all(|(count, least)| count >= least);
+        let enough = counts[0] >= least[0] && counts[1] >= least[1];
         assert!(enough, "{kind:?} {wanted:?}: {counts:?}");
     }
 }
 
-/// With the mark a wrong loss of it shows, and one that does not come.
+/// With the mark a wrong loss of it shows, and one that does not come. Lists of the kind `homes` have
+/// few crosses.
 #[test]
 fn lists_of_every_kind_meet_crosses_that_are_kept_and_others() {
     for (_, kind) in CALL_KINDS {
-        let [few, many] = if kind == CallKind::Homes {
-            [1, 14]
+        let least = if kind == CallKind::Homes {
+            [[60, 20], [3, 1], [15, 5], [2, 1], [30, 5]]
         } else {
-            [3, 60]
+            [[300, 150], [10, 2], [60, 20], [15, 5], [300, 100]]
         };
-        assert_met(
-            kind,
-            &[
-                (&[Met::New], [100, 50]),
-                (&[Met::Repeated, Met::RepeatedWhenFull], [5, few]),
-                (&[Met::Corrected, Met::CorrectedWhenFull], [20, 5]),
-                (&[Met::CorrectedNone], [5, few]),
-                (&[Met::Asked, Met::AskedWhenFull], [60, many]),
-            ],
-        );
+        let met: [&[Met]; 5] = [
+            &[Met::New],
+            &[Met::Repeated, Met::RepeatedWhenFull],
+            &[Met::Corrected, Met::CorrectedWhenFull],
+            &[Met::CorrectedNone],
+            &[Met::Asked, Met::AskedWhenFull],
+        ];
+        assert_met(kind, &met, &least);
     }
 }
 
-/// Lists of the kind `homes` have few crosses.
 #[test]
-fn lists_of_every_other_kind_meet_16_crosses() {
+fn lists_of_every_kind_but_homes_meet_16_crosses() {
     for (_, kind) in CALL_KINDS {
         if kind != CallKind::Homes {
-            assert_met(
-                kind,
-                &[
-                    (&[Met::TooMany], [10, 3]),
-                    (&[Met::RepeatedWhenFull], [1, 0]),
-                    (&[Met::CorrectedWhenFull], [5, 2]),
-                    (&[Met::AskedWhenFull], [20, 5]),
-                ],
+            let met: [&[Met]; 4] = [
+                &[Met::TooMany],
+                &[Met::RepeatedWhenFull],
+                &[Met::CorrectedWhenFull],
+                &[Met::AskedWhenFull],
+            ];
+            assert_met(kind, &met, &[[30, 5], [3, 0], [25, 5], [80, 3]]);
+        }
+    }
+}
+
+/// Of the volumes that are not 0 at least a tenth have the mark, and a tenth lack it.
+#[test]
+fn volumes_of_every_kind_are_with_the_mark_and_without() {
+    for (name, kind) in CALL_KINDS {
+        let text: String = lists(kind).map(|list| probe(&list)).collect();
+        let volumes = text.lines().filter_map(|line| line.strip_prefix("V,0,"));
+        let volumes: Vec<&str> = volumes.filter(|volume| !volume.starts_with("0,")).collect();
+        for whole in [",0", ",1"] {
+            let having = volumes.iter().filter(|volume| volume.ends_with(whole));
+            let percent = 100 * having.count() / volumes.len();
+            assert!(
+                percent >= 10,
+                "{name}{whole}: {percent} of {}",
+                volumes.len()
             );
         }
     }

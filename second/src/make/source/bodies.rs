@@ -145,11 +145,12 @@ impl Source {
         }
     }
 
-    /// Mostly of a trade that is kept.
+    /// Mostly of a trade that is kept; at times of a number that a cross has.
     pub fn cancel_body(&mut self, index: u32) -> Body {
         let kept = self.kept(index);
         let trade = if self.draw.random.one_in(10) {
-            self.draw.id()
+            let crosses = self.kept_crosses(index);
+            self.any_or_kept(&crosses)
         } else if kept.is_empty() {
             let indicator = self.draw.letter();
             return Body::Retail { indicator };

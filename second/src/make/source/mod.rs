@@ -11,6 +11,7 @@ use crate::answer::Refusal;
 use crate::book::{Order, Side, LIVE_ORDERS};
 use crate::line::line_text;
 use crate::reader::Reader;
+use crate::record::Cross;
 use crate::wire::{Body, Market, Message};
 
 /// How many live orders books are to have.
@@ -64,9 +65,13 @@ impl Source {
 
     /// The numbers of the crosses that are kept.
     pub fn kept_crosses(&self, index: u32) -> Vec<u32> {
+        let crosses = self.crosses(index).iter();
+        crosses.map(|cross| cross.number).collect()
+    }
+
+    fn crosses(&self, index: u32) -> &[Cross] {
         let symbol = self.reader.symbol(index);
-        let crosses = symbol.map_or(&[][..], |symbol| symbol.record.crosses());
-        crosses.iter().map(|cross| cross.number).collect()
+        symbol.map_or(&[], |symbol| symbol.record.crosses())
     }
 
     /// The next message of any symbol; it is applied here.
