@@ -118,11 +118,11 @@ fn begin_again(maker: &mut Maker, kind: CallKind) {
 fn push(maker: &mut Maker, kind: CallKind) {
     maker.source.draw.edges = kind == CallKind::Edges;
     maker.source.clears = if kind == CallKind::Edges { 25 } else { 120 };
+    // A record that lost its mark never has it again, so that most lists often begin again.
     let states = match kind {
-        _ if maker.any_market => 60,
-        CallKind::Plain | CallKind::Edges => 60,
-        CallKind::Full => 150,
-        _ => 400,
+        CallKind::Homes => 400,
+        CallKind::Full if !maker.any_market => 150,
+        _ => 60,
     };
     if maker.source.indices().is_empty() || maker.random().one_in(states) {
         return begin_again(maker, kind);
