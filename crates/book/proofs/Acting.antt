@@ -25,7 +25,7 @@ use Rattle.symbols.specs.Turns.{restarted, turnAnswer, turnAt}
 use Rattle.symbols.specs.Promises.{Alters}
 use Rattle.symbols.specs.declared.Symbols.{Symbols}
 use Rattle.symbols.proofs.Entries.{entry-past}
-use Rattle.book.specs.State.{Symbol, View, withPlaces, Next, entryAt, ordersAt, tradesAt, symbolOf, view, placeIn, Wf}
+use Rattle.book.specs.State.{Symbol, View, withPlaces, Next, entryAt, ordersAt, recordAt, symbolOf, view, placeIn, Wf}
 use Rattle.orders.specs.Rules.{applyTo}
 use Rattle.book.specs.Step.{changeOf, dealOf, madeStale, enacted, meeting, refusing, put, actOn, meant, stepOn}
 use Rattle.book.specs.Promises.{unchanging, Obeys, Steps, Awaits, MakesStale, Settles}
@@ -61,14 +61,14 @@ module _ (b : Book) (a : Act Effect) where
   unfolding actOn
   act-missing h = rw (symbol-missing b (indexOf a) h)
 
-  act-at : (k : ℕ) → k ≡ placeIn (indexOf a) (view b) → (r : SymbolAt b (indexOf a) k) → actOn (view b) a ≡ put (view b) k (meeting (symbolOf (r .entry) (ordersAt b k) (tradesAt b k)) a)
+  act-at : (k : ℕ) → k ≡ placeIn (indexOf a) (view b) → (r : SymbolAt b (indexOf a) k) → actOn (view b) a ≡ put (view b) k (meeting (symbolOf (r .entry) (ordersAt b k) (recordAt b k)) a)
   unfolding actOn
   act-at k e r = rw (r .there, ← e)
 
 -- a symbol that stays as it was leaves the view as it was
-put-same : (b : Book) (k a : ℕ) (e : Entry) → k < symbols → entryAt b k ≡ some e → put (view b) k (record { symbol = symbolOf e (ordersAt b k) (tradesAt b k); answer = a }) ≡ refusing (view b) a
+put-same : (b : Book) (k a : ℕ) (e : Entry) → k < symbols → entryAt b k ≡ some e → put (view b) k (record { symbol = symbolOf e (ordersAt b k) (recordAt b k); answer = a }) ≡ refusing (view b) a
 put-same b k a e h at =
-    let there : getD (view b .places) k none ≡ some (symbolOf e (ordersAt b k) (tradesAt b k)) = view-at b k h ∙ ap (λ (x : Option Entry). seen x (ordersAt b k) (tradesAt b k)) at in
+    let there : getD (view b .places) k none ≡ some (symbolOf e (ordersAt b k) (recordAt b k)) = view-at b k h ∙ ap (λ (x : Option Entry). seen x (ordersAt b k) (recordAt b k)) at in
     ap (λ (ps : List (Option Symbol)). refusing (withPlaces (view b) ps) a) (ap (set (view b .places) k) (sym there) ∙ set-getD (view b .places) k none)
 
 -- ---- the turn of a number
@@ -133,7 +133,7 @@ module _ (b : Book) (index n : ℕ) (e : Effect) (k t : ℕ) (asked : Asked b in
     at-k = symbol-at b index k is in-range
 
     abbrev symbol : Symbol
-    symbol = symbolOf (at-k .entry) (ordersAt b k) (tradesAt b k)
+    symbol = symbolOf (at-k .entry) (ordersAt b k) (recordAt b k)
 
     abbrev comes-to : Ruling (List Order) → Next
     comes-to r = put (view b) k (enacted symbol (dealOf e) r)

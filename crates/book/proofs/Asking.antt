@@ -13,7 +13,7 @@ use Rattle.symbols.specs.declared.registering.Listing.{Listing}
 use Rattle.symbols.proofs.Entries.{length-entries}
 use Rattle.symbols.proofs.Finding.{missing}
 use Rattle.record.specs.Rules.{sharesOf}
-use Rattle.book.specs.State.{entryAt, ordersAt, tradesAt, view, entryOf, placeIn, symbolIn}
+use Rattle.book.specs.State.{entryAt, ordersAt, recordAt, view, entryOf, placeIn, symbolIn}
 use Rattle.book.specs.Registering.{toldIn}
 use Rattle.book.specs.Quote.{noQuote, quotedIf, quoted, quoteOf, volumeIn, volumeOf}
 use Rattle.book.specs.declared.Book.{Book}
@@ -43,9 +43,9 @@ module _ (b : Book) (index k : ℕ) (place : k ≡ placeOf itself index (entries
     unfolding quoteOf
     quote-at t e = sym (ap quoted (symbol-at b index k is h .there) ∙ ap (λ (x : Standing). quotedIf (x .stale) (ordersAt b k)) (sym stands) ∙ ap (λ (x : Bool). quotedIf x (ordersAt b k)) e)
 
-    pub volume-at : record { answer = 0; shares = sharesOf (tradesAt b k); whole = s .whole } ≡ volumeOf index (view b)
+    pub volume-at : record { answer = 0; shares = sharesOf (recordAt b k); whole = s .whole } ≡ volumeOf index (view b)
     unfolding volumeOf
-    volume-at = sym (ap volumeIn (symbol-at b index k is h .there) ∙ ap (λ (x : Standing). record { answer = 0; shares = sharesOf (tradesAt b k); whole = x .whole }) (sym stands))
+    volume-at = sym (ap volumeIn (symbol-at b index k is h .there) ∙ ap (λ (x : Standing). record { answer = 0; shares = sharesOf (recordAt b k); whole = x .whole }) (sym stands))
 
 module _ (b : Book) (index : ℕ) where
   -- the entry found is that of the symbol found

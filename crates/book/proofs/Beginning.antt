@@ -33,7 +33,7 @@ fresh m = record {
   names = refl;
   orders = refl;
   trades = refl;
-  wf = record { names = nobody-sound; orders = no-orders-sound; trades = no-trades-sound; no-orders = λ k h n. orders-held.new-has-none k; no-trades = λ k h n. record-held.new-has-none k };
+  wf = record { names = nobody-sound; orders = no-orders-sound; trades = no-trades-sound; no-orders = λ k h n. orders-held.new-has-none k; no-record = λ k h n. record-held.new-has-none k };
   new-view = nothing-seen m;
 }
 

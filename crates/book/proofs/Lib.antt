@@ -11,6 +11,7 @@ pub mod OneMarket
 pub mod Holding
 pub mod Levels
 pub mod Marks
+pub mod Auctions
 pub mod Refusals
 pub mod Answers
 pub mod Positions

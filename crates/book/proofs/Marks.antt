@@ -12,7 +12,7 @@ use Rattle.wire.specs.Outcome.{Outcome, done, refused}
 use Rattle.wire.specs.Reading.{Read, reachOf, readOf}
 use Rattle.wire.specs.declared.Message.{Message}
 use Rattle.book.specs.State.{Symbol, View, view, symbolIn, Wf}
-use Rattle.record.specs.Rules.{dealTo}
+use Rattle.record.specs.Rules.{lostBy}
 use Rattle.book.specs.Step.{dealOf, enacted, meeting, actOn, meant, stepOn, stepOf, stepIn}
 use Rattle.book.specs.Quote.{volumeIn, volumeOf}
 use Rattle.book.specs.Walk.{moveBy, moveOf, walkOf, stepsOf, runOf, Moves, Runs}
@@ -36,7 +36,7 @@ enacted-lost : (s : Symbol) (d : Deal) (r : Ruling (List Order)) → s .entry .s
 unfolding enacted
 enacted-lost s d (unchanged a) e = e
 enacted-lost s d (made-stale a) e = refl
-enacted-lost s d (applied os) e = still-lost (dealTo (s .trades) d .lost) (s .entry .standing .whole) e
+enacted-lost s d (applied os) e = still-lost (lostBy (s .kept) d) (s .entry .standing .whole) e
 
 pub mark-never-returns : (s : Symbol) (a : Act Effect) → s .entry .standing .whole ≡ false → meeting s a .symbol .entry .standing .whole ≡ false
 unfolding meeting

@@ -1,5 +1,5 @@
 -- A plan is held to the rule: what is heard of a message, the turn at its symbol, and stores of single places that are the change and the deal.
-use mathlib.Core.Bool.{Bool, false, cond, false≢true}
+use mathlib.Core.Bool.{Bool, true, false, false≢true}
 use mathlib.Core.List.{List}
 use mathlib.Core.Logic.{_≢_}
 use mathlib.Core.Option.{Option}
@@ -29,28 +29,25 @@ use Rattle.orders.specs.declared.landing.Landing.{Landing}
 use Rattle.orders.specs.declared.rules.Verdict.{Verdict}
 use Rattle.orders.proofs.Finding.{searchable, looked-at}
 use Rattle.orders.proofs.Laying.{laid-obeys}
-use Rattle.record.specs.State as record-room
-use Rattle.record.specs.State.{tradesEach, noTrade, tradeNumber, tradeLive}
-use Rattle.record.specs.Rules.{dealTo}
+use Rattle.record.specs.State.{tradesEach, crossesEach}
 use Rattle.record.specs.Deciding as recording
+use Rattle.record.specs.Deciding.{Trades, Crosses, storedAt, AtSpots}
 use Rattle.record.specs.Promises as dealing
 use Rattle.record.specs.declared.Record.{Record}
 use Rattle.record.specs.declared.Deal.{Deal}
 use Rattle.record.specs.declared.Trade.{Trade}
+use Rattle.record.specs.declared.Cross.{Cross}
 use Rattle.record.specs.declared.rules.Recording.{Recording}
-use Rattle.record.proofs.Recording.{nothing-dealt}
-use Rattle.record.proofs.Storing as record-search
-use Rattle.record.proofs.Storing.{dealt, stored-in}
-use Rattle.book.specs.State.{View, Next, view, tradesAt, Wf}
+use Rattle.record.proofs.Storing.{nothing-comes, stored-obeys}
+use Rattle.book.specs.State.{View, Next, view, Wf}
 use Rattle.book.specs.Step.{refusing, actOn, stepOf}
 use Rattle.book.specs.Promises.{Steps}
-use Rattle.book.specs.Planning.{Means, HearsNumbered, Hears, seatBy, seatOf, SitsBy, Sits, changeIn, dealIn, InTurn, TurnIn, Looked, Judged, Lays, PlansBy, wayWith, dealtIn, landedIn}
+use Rattle.book.specs.Planning.{Means, HearsNumbered, Hears, seatBy, seatOf, SitsBy, Sits, changeIn, dealIn, InTurn, TurnIn, Looked, Judged, Lays, bringsNothing, landedIn}
 use Rattle.book.specs.declared.Book.{Book}
 use Rattle.book.specs.declared.acts.Effect.{Effect}
 use Rattle.book.specs.declared.hearing.Heard.{Heard}
 use Rattle.book.specs.declared.hearing.Tone.{Tone}
 use Rattle.book.specs.declared.hearing.Turn.{Turn}
-use Rattle.book.specs.declared.plans.Way.{Way}
 use Rattle.book.proofs.Acting.{Asked, meeting-away, meeting-turn, awaits, act-nobody}
 use Rattle.book.proofs.Stores.{enacts-done}
 use Rattle.book.proofs.Views.{same-market}
@@ -130,71 +127,40 @@ module _ (b : Book) (z : Read) (h : Heard) (k : ℕ) where
     pub lies : p ≡ getD (b .symbols .places) seat nowhere
     pub counted : q ≡ restanding p (countedIf lost (p .standing))
 
-  module _ (seat : ℕ) (lost : Bool) (p q : Place) (s : Counts seat lost p q) (l : Landing) (m : Beside) (mirrored : Mirrors (besides (b .orders)) k (l .gone) (l .place) (l .order) m)
+  module _ (seat : ℕ) (lost : Bool) (p q : Place) (s : Counts seat lost p q) (none : Order) (empty : none ≡ noOrder) (l : Landing) (m : Beside) (mirrored : Mirrors (besides (b .orders)) k (l .gone) (l .place) (l .order) m)
       (plans : Wf b → InTurn b z k (changeIn h) (dealIn h) × Lays b k (changeIn h) l) where
     -- the orders' two stores, a record that the deal gives, and the symbol's number
-    lands-with : (ts : Record) → (k < symbols → Wf b → dealing.Obeys (b .trades) k (dealTo (tradesAt b k) (dealIn h)) (record { trades = ts; lost = lost })) → Steps b (stepOf (view b) z) (record { book = landedIn b seat q l m ts; answer = 0 })
+    lands-with : (ts : Record) → (k < symbols → Wf b → dealing.Obeys (b .trades) k (dealIn h) (record { trades = ts; lost = lost })) → Steps b (stepOf (view b) z) (record { book = landedIn b seat q none l m ts; answer = 0 })
     unfolding among
     lands-with ts deals = record {
-      market = same-market b (landedIn b seat q l m ts) refl;
+      market = same-market b (landedIn b seat q none l m ts) refl;
       kept = λ u. absurd (false≢true u);
       obeys = λ w.
           let turn = plans w .0 in
           let g = turn .awaits .place in
           let at : seat ≡ k = s .own ∙ own-seat k g in
           let moved : q ≡ restanding (placeAt (b .symbols) k) (countedIf lost (placeAt (b .symbols) k .standing)) = s .counted ∙ ap (λ (y : Place). restanding y (countedIf lost (y .standing))) (s .lies ∙ ap (λ (j : ℕ). getD (b .symbols .places) j nowhere) at) in
-          turn .enacts (record { book = landedIn b seat q l m ts; answer = 0 })
-          (enacts-done b k (changeIn h) (dealIn h) (turn .awaits) (record { orders = laidIn (b .orders) l m; fit = code.Fit.Fits }) refl (record { trades = ts; lost = lost }) (landedIn b seat q l m ts .symbols)
-          (λ u. plans w .1 m mirrored) (λ u. deals g w) (λ u. rw (at, moved) (stands (b .symbols) k (countedIf lost) g (w .names .long)))) .obeys w;
+          turn .enacts (record { book = landedIn b seat q none l m ts; answer = 0 })
+          (enacts-done b k (changeIn h) (dealIn h) (turn .awaits) (record { orders = landedIn b seat q none l m ts .orders; fit = code.Fit.Fits }) refl (record { trades = ts; lost = lost }) (landedIn b seat q none l m ts .symbols)
+          (λ u. rw empty (plans w .1 m mirrored)) (λ u. deals g w) (λ u. rw (at, moved) (stands (b .symbols) k (countedIf lost) g (w .names .long)))) .obeys w;
     }
 
     -- nothing comes to the record
-    pub lands-step : dealIn h ≡ Deal.Nothing → lost ≡ false → Steps b (stepOf (view b) z) (record { book = landedIn b seat q l m (b .trades); answer = 0 })
-    lands-step e f = lands-with (b .trades) (λ g w. rw (e, f) (dealt (b .trades) k Deal.Nothing (recording.unrecorded false) g (w .trades) (nothing-dealt (record-room.shelfAt (b .trades) k) (record-search.whole (b .trades) k g (w .trades)))))
+    pub lands-step : dealIn h ≡ Deal.Nothing → lost ≡ false → Steps b (stepOf (view b) z) (record { book = landedIn b seat q none l m (b .trades); answer = 0 })
+    lands-step e f = lands-with (b .trades) (λ g w. rw (e, f) (nothing-comes (b .trades) k (w .trades)))
 
-    -- the trade goes to its slot, or what lies there is stored again
-    pub stores-step : (r : Recording) (slot : ℕ) (t : Trade) (n : ℕ) → lost ≡ r .lost
-        → (k < symbols → recording.Searchable (b .trades .places) (b .trades .tickets) → recording.TradeShelf (record-room.shelfAt (b .trades) k) → recording.Decides (record-room.shelfAt (b .trades) k) (dealIn h) r)
-        → slot ≡ spotIn tradesEach k (r .place) → t ≡ cond (ltb (r .place) tradesEach) (r .trade) (getD (b .trades .places) slot noTrade) → n ≡ ticket tradeNumber tradeLive t
-        → Steps b (stepOf (view b) z) (record { book = landedIn b seat q l m (dealtIn b slot t n); answer = 0 })
-    stores-step r slot t n f decides at trade is = lands-with (dealtIn b slot t n)
-        (λ g w. let trades = dealt (b .trades) k (dealIn h) r g (w .trades) (decides g (record-search.searchable (b .trades) (w .trades)) (record-search.whole (b .trades) k g (w .trades))) in
-        let kept = stored-in (b .trades) k g (w .trades) (r .place) (r .trade) in
-        rw (f, is, trade, at, kept) trades)
+    -- what the deal brings goes to its spots
+    pub stores-step : (r : Recording) (slot : ℕ) (t : Trade) (n corner : ℕ) (x : Cross) (o : ℕ) → lost ≡ r .lost → (d : Deal) → d ≡ dealIn h
+        → ((ts : List Trade) (xs : List Cross) → k < symbols → Trades ts (b .trades .tickets) → Crosses xs (b .trades .stubs) → recording.Decides (shelf tradesEach k ts) (shelf crossesEach k xs) d r)
+        → AtSpots (b .trades) k r slot t n corner x o
+        → Steps b (stepOf (view b) z) (record { book = landedIn b seat q none l m (storedAt (b .trades) slot t n corner x o); answer = 0 })
+    stores-step r slot t n corner x o f d e decides spots = lands-with (storedAt (b .trades) slot t n corner x o)
+        (λ g w. rw f (stored-obeys (b .trades) k g (w .trades) r slot t n corner x o spots (dealIn h) (rw e at (decides _ _ g (w .trades .trades) (w .trades .crosses)))))
 
--- ---- which way it went, with a deal
-abbrev numberOfWay : Way → ℕ
-numberOfWay Way.Nothing = 0
-numberOfWay Way.Lands = 1
-numberOfWay Way.Deals = 2
-numberOfWay Way.Steps = 3
-
-pub went-nowhere : (w : Way) (d : Deal) → wayWith w d ≡ Way.Nothing → w ≡ Way.Nothing
-went-nowhere Way.Nothing d e = refl
-went-nowhere Way.Lands Deal.Nothing e = absurd (omega (arith, ap numberOfWay e))
-went-nowhere Way.Lands (Deal.Records n p v) e = absurd (omega (arith, ap numberOfWay e))
-went-nowhere Way.Lands (Deal.Cancels n) e = absurd (omega (arith, ap numberOfWay e))
-went-nowhere Way.Deals d e = absurd (omega (arith, ap numberOfWay e))
-went-nowhere Way.Steps d e = absurd (omega (arith, ap numberOfWay e))
-
-pub brings-nothing : (w : Way) (d : Deal) → wayWith w d ≡ Way.Lands → d ≡ Deal.Nothing
-brings-nothing Way.Nothing d e = absurd (omega (arith, ap numberOfWay e))
-brings-nothing Way.Lands Deal.Nothing e = refl
-brings-nothing Way.Lands (Deal.Records n p v) e = absurd (omega (arith, ap numberOfWay e))
-brings-nothing Way.Lands (Deal.Cancels n) e = absurd (omega (arith, ap numberOfWay e))
-brings-nothing Way.Deals d e = absurd (omega (arith, ap numberOfWay e))
-brings-nothing Way.Steps d e = absurd (omega (arith, ap numberOfWay e))
-
--- what lands, with a deal or without one, was planned to
-module _ (b : Book) (z : Read) (h : Heard) (k a : ℕ) (l : Landing) where
-  planned-so : (w : Way) (d : Deal) → 1 ≤ numberOfWay (wayWith w d) → numberOfWay (wayWith w d) ≤ 2 → PlansBy b z h k a l w → InTurn b z k (changeIn h) (dealIn h) × Lays b k (changeIn h) l
-  planned-so Way.Nothing d e f p = absurd (omega (arith, e))
-  planned-so Way.Lands d e f p = p
-  planned-so Way.Deals d e f p = p
-  planned-so Way.Steps d e f p = absurd (omega (arith, f))
-
-  pub lands-as-planned : (w : Way) (d : Deal) → wayWith w d ≡ Way.Lands → PlansBy b z h k a l w → InTurn b z k (changeIn h) (dealIn h) × Lays b k (changeIn h) l
-  lands-as-planned w d e = planned-so w d (omega (arith, ap numberOfWay e)) (omega (arith, ap numberOfWay e))
-
-  pub deals-as-planned : (w : Way) (d : Deal) → wayWith w d ≡ Way.Deals → PlansBy b z h k a l w → InTurn b z k (changeIn h) (dealIn h) × Lays b k (changeIn h) l
-  deals-as-planned w d e = planned-so w d (omega (arith, ap numberOfWay e)) (omega (arith, ap numberOfWay e))
+-- ---- whether a deal brings anything to the record
+pub brings-nothing : (d : Deal) → bringsNothing d ≡ true → d ≡ Deal.Nothing
+brings-nothing Deal.Nothing e = refl
+brings-nothing (Deal.Records n p v) e = absurd (false≢true e)
+brings-nothing (Deal.Cancels n) e = absurd (false≢true e)
+brings-nothing (Deal.Crosses n v) e = absurd (false≢true e)
+brings-nothing (Deal.Corrects n v) e = absurd (false≢true e)

@@ -18,7 +18,7 @@ use Rattle.symbols.specs.Promises.{Registers}
 use Rattle.symbols.specs.declared.registering.Entered.{Entered}
 use Rattle.symbols.proofs.Entries.{length-entries}
 use Rattle.symbols.proofs.Finding.{is-none}
-use Rattle.book.specs.State.{withPlaces, entryAt, ordersAt, tradesAt, symbolOf, view, Wf}
+use Rattle.book.specs.State.{withPlaces, entryAt, ordersAt, recordAt, symbolOf, view, Wf}
 use Rattle.book.specs.Registering.{started, placing, registerOf}
 use Rattle.book.specs.Promises.{unchanging, Obeys, Steps}
 use Rattle.book.specs.declared.Book.{Book}
@@ -37,7 +37,7 @@ module _ (b : Book) (index : ℕ) (name : List ℕ) (scale : ℕ) (r : Entered) 
 
   same-view : entries (r .symbols) ≡ es → view (with b r) ≡ view b
   unfolding view
-  same-view n = ap (λ (l : List (Option Entry)). record { market = marketOf (b .market); places = tabulate symbols (λ k. seen (getD l k none) (ordersAt b k) (tradesAt b k)) }) n
+  same-view n = ap (λ (l : List (Option Entry)). record { market = marketOf (b .market); places = tabulate symbols (λ k. seen (getD l k none) (ordersAt b k) (recordAt b k)) }) n
 
   module _ (w : Wf b) where
     stays : (a : ℕ) → entries (r .symbols) ≡ es → r .answer ≡ a → Obeys (record { view = view b; answer = a }) (with b r) (r .answer)
@@ -47,7 +47,7 @@ module _ (b : Book) (index : ℕ) (name : List ℕ) (scale : ℕ) (r : Entered) 
         orders = w .orders;
         trades = w .trades;
         no-orders = λ k h z. w .no-orders k h (sym (ap (λ (l : List (Option Entry)). getD l k none) n) ∙ z);
-        no-trades = λ k h z. w .no-trades k h (sym (ap (λ (l : List (Option Entry)). getD l k none) n) ∙ z);
+        no-record = λ k h z. w .no-record k h (sym (ap (λ (l : List (Option Entry)). getD l k none) n) ∙ z);
       };
       next-view = same-view n;
       answer = e;
@@ -70,7 +70,7 @@ module _ (b : Book) (index : ℕ) (name : List ℕ) (scale : ℕ) (r : Entered) 
           newcomer (ap (λ (l : List (Option Entry)). getD l (vacancyOf es) none) n ∙ getD-set-same es (vacancyOf es) _ none (rw (length-entries (b .symbols)) h))
           (record { symbol = started newcomer; answer = 0 }) w
           (record { names = p .wf (w .names); orders = w .orders; trades = w .trades })
-          (λ i. symbolOf newcomer (w .no-orders (vacancyOf es) h vacant-there i) (w .no-trades (vacancyOf es) h vacant-there i)))
+          (λ i. symbolOf newcomer (w .no-orders (vacancyOf es) h vacant-there i) (w .no-record (vacancyOf es) h vacant-there i)))
 
     -- the tests of the rule are the same over the entries and over the view
     by-tests : (t u v : Bool) → ltb (vacancyOf es) symbols ≡ v → entries (r .symbols) ≡ registeredIf t u v es newcomer .view

@@ -84,7 +84,7 @@ module _ (v : View) (d : Read) (live : ℕ) (a : AddsTo v d live) where
   -- what it comes to where there is room: the symbol is a number on, with the new order among its orders, of which so many are live then
   pub record Added (then : ℕ) : Type 0 where
     pub answer : stepOf v d .answer ≡ 0
-    pub there : symbolIn (a .index) (stepOf v d .view) ≡ some (becomes before (counted false (before .entry .standing)) (insert orderNumber new (before .orders)) (before .trades))
+    pub there : symbolIn (a .index) (stepOf v d .view) ≡ some (becomes before (counted false (before .entry .standing)) (insert orderNumber new (before .orders)) (before .kept))
     pub so-many : length (liveIn (a .index) (stepOf v d .view)) ≡ then
 
   -- and where there is none: the symbol is stale and its record without the mark, with the orders that it had
@@ -114,20 +114,40 @@ unfoldable pub filled : ℕ → View
 filled zero = registerOf (newView Market.Nyse) 7 (65 ∷ []) 0 .view
 filled (suc n) = stepOf (filled n) (adding (suc n)) .view
 
--- what the next one asks of the symbol
-abbrev Ready : ℕ → Option Symbol → Type 0
-Ready n none = ⊥
-Ready n (some s) = (s .entry .standing .expected ≡ suc n) × (s .entry .standing .stale ≡ false) × (look orderNumber (suc n) (s .orders) ≡ none) × (length (s .orders) ≡ n)
+-- what the next one asks of the symbol, as one value to compute
+record Asked : Type 0 where
+  pub turn : ℕ
+  pub stale : Bool
+  pub live : Option Order
+  pub so-many : ℕ
 
-comes : (n : ℕ) (x : Option Symbol) → symbolIn 7 (filled n) ≡ x → Ready n x → AddsTo (filled n) (adding (suc n)) n
+abbrev askedOf : ℕ → Option Symbol → Asked
+askedOf n none = record { turn = 0; stale = true; live = none; so-many = 0 }
+askedOf n (some s) = record { turn = s .entry .standing .expected; stale = s .entry .standing .stale; live = look orderNumber (suc n) (s .orders); so-many = length (s .orders) }
+
+comes : (n : ℕ) (x : Option Symbol) → symbolIn 7 (filled n) ≡ x → askedOf n x ≡ record { turn = suc n; stale = false; live = none; so-many = n } → AddsTo (filled n) (adding (suc n)) n
 unfolding meant
-comes n none e r = absurd r
-comes n (some s) e (turn, not-stale, not-live, so-many) = record { message = _; index = 7; number = suc n; price = 1000; volume = 10; buy = true; symbol = s; read = refl; means = rw turn; there = e; not-stale = not-stale; not-live = not-live; so-many = so-many }
+comes n none e r = absurd (omega (arith, ap (λ (a : Asked). a .turn) r))
+comes n (some s) e r = record {
+  message = _;
+  index = 7;
+  number = suc n;
+  price = 1000;
+  volume = 10;
+  buy = true;
+  symbol = s;
+  read = refl;
+  means = rw (ap (λ (a : Asked). a .turn) r);
+  there = e;
+  not-stale = ap (λ (a : Asked). a .stale) r;
+  not-live = ap (λ (a : Asked). a .live) r;
+  so-many = ap (λ (a : Asked). a .so-many) r;
+}
 
 pub the-256th-comes : AddsTo (filled 255) (adding 256) 255
 unfolding filled firstWhere insert look placeOf foundIn vacancyOf applyTo dealTo nameBad registered ruled enacted meeting actOn meant stepOf
-the-256th-comes = comes 255 (symbolIn 7 (filled 255)) refl (refl, refl, refl, refl)
+the-256th-comes = comes 255 (symbolIn 7 (filled 255)) refl refl
 
 pub the-257th-comes : AddsTo (filled 256) (adding 257) 256
 unfolding filled firstWhere insert look placeOf foundIn vacancyOf applyTo dealTo nameBad registered ruled enacted meeting actOn meant stepOf
-the-257th-comes = comes 256 (symbolIn 7 (filled 256)) refl (refl, refl, refl, refl)
+the-257th-comes = comes 256 (symbolIn 7 (filled 256)) refl refl

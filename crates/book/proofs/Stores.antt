@@ -26,11 +26,10 @@ use Rattle.orders.specs.declared.Orders.{Orders}
 use Rattle.orders.specs.declared.Change.{Change}
 use Rattle.orders.specs.declared.Changed.{Changed}
 use Rattle.orders.specs.declared.Fit as code
-use Rattle.record.specs.Rules.{dealTo}
 use Rattle.record.specs.Promises as dealing
 use Rattle.record.specs.declared.Deal.{Deal}
 use Rattle.record.specs.declared.Dealt.{Dealt}
-use Rattle.book.specs.State.{entryAt, ordersAt, tradesAt, symbolOf, view, Wf}
+use Rattle.book.specs.State.{entryAt, ordersAt, recordAt, symbolOf, view, Wf}
 use Rattle.book.specs.Step.{madeStale, enacted, cleared, put}
 use Rattle.book.specs.Promises.{unchanging, Obeys, Awaits, MakesStale, Enacts}
 use Rattle.book.specs.declared.Book.{Book}
@@ -50,36 +49,36 @@ module _ (b r : Symbols) (k : ℕ) (f : Standing → Standing) (p : Alters b k f
 module _ (b : Book) (k : ℕ) (in-range : k < symbols) (e : Entry) (at : entryAt b k ≡ some e) (w : Wf b) where
   -- ---- refused, and the symbol stale
   pub stales : (a : ℕ) (r : Done) → MakesStale b k a r
-      → Obeys (put (view b) k (record { symbol = madeStale (symbolOf e (ordersAt b k) (tradesAt b k)); answer = a })) (r .book) a
+      → Obeys (put (view b) k (record { symbol = madeStale (symbolOf e (ordersAt b k) (recordAt b k)); answer = a })) (r .book) a
   stales a r p = obeys-at b (r .book) k in-range
       (record { market = p .market; entries = other-entry _ _ k staled (p .symbols); orders = λ m ne. rw (p .orders); trades = λ m ne. rw (p .trades) })
       _ (own-entry _ _ k staled (p .symbols) in-range e at)
-      (record { symbol = madeStale (symbolOf e (ordersAt b k) (tradesAt b k)); answer = a }) w
+      (record { symbol = madeStale (symbolOf e (ordersAt b k) (recordAt b k)); answer = a }) w
       (record { names = p .symbols .wf (w .names); orders = rw (p .orders) (w .orders); trades = rw (p .trades) (w .trades) })
       (rw (p .orders, p .trades))
 
-  -- ---- applied: these orders and these trades, and the number counted
-  applies : (c : Changed) (os : List Order) → changing.Obeys (b .orders) k (fits os) c → (d : Deal) (t : Dealt) → dealing.Obeys (b .trades) k (dealTo (tradesAt b k) d) t
+  -- ---- applied: these orders and this record, and the number counted
+  applies : (c : Changed) (os : List Order) → changing.Obeys (b .orders) k (fits os) c → (d : Deal) (t : Dealt) → dealing.Obeys (b .trades) k d t
       → e .standing .expected < numbers → (s : Symbols) → Alters (b .symbols) k (countedIf (t .lost)) s
-      → Obeys (put (view b) k (enacted (symbolOf e (ordersAt b k) (tradesAt b k)) d (ruled false false false (fits os)))) (record { symbols = s; orders = c .orders; trades = t .trades; market = b .market }) 0
+      → Obeys (put (view b) k (enacted (symbolOf e (ordersAt b k) (recordAt b k)) d (ruled false false false (fits os)))) (record { symbols = s; orders = c .orders; trades = t .trades; market = b .market }) 0
   unfolding enacted ruled fitted
   applies c os p d t q n s a =
       obeys-at b (record { symbols = s; orders = c .orders; trades = t .trades; market = b .market }) k in-range
       (record { market = refl; entries = other-entry _ _ k (countedIf (t .lost)) a; orders = p .others; trades = q .others })
       _ (own-entry _ _ k (countedIf (t .lost)) a in-range e at)
-      (enacted (symbolOf e (ordersAt b k) (tradesAt b k)) d (ruled false false false (fits os))) w
+      (enacted (symbolOf e (ordersAt b k) (recordAt b k)) d (ruled false false false (fits os))) w
       (record { names = a .wf (w .names); orders = p .wf; trades = q .wf })
       (rw (lt-ltb (e .standing .expected) numbers n) (λ i. symbolOf (standingAt (counted (q .lost i) (e .standing)) e) (p .own i) (q .own i)))
 
   -- ---- symbol clear
   pub clears : (next : ℕ) (s : Symbols) → Alters (b .symbols) k (restarted next) s → (os : Orders) → changing.Clears (b .orders) k os
-      → Obeys (put (view b) k (cleared (symbolOf e (ordersAt b k) (tradesAt b k)) next)) (record { symbols = s; orders = os; trades = b .trades; market = b .market }) 0
+      → Obeys (put (view b) k (cleared (symbolOf e (ordersAt b k) (recordAt b k)) next)) (record { symbols = s; orders = os; trades = b .trades; market = b .market }) 0
   clears next s a os c = obeys-at b (record { symbols = s; orders = os; trades = b .trades; market = b .market }) k in-range
       (record { market = refl; entries = other-entry _ _ k (restarted next) a; orders = c .others; trades = λ m ne. refl })
       _ (own-entry _ _ k (restarted next) a in-range e at)
-      (cleared (symbolOf e (ordersAt b k) (tradesAt b k)) next) w
+      (cleared (symbolOf e (ordersAt b k) (recordAt b k)) next) w
       (record { names = a .wf (w .names); orders = c .wf (w .orders); trades = w .trades })
-      (λ i. symbolOf (standingAt (restarted next (e .standing)) e) (c .own in-range i) (tradesAt b k))
+      (λ i. symbolOf (standingAt (restarted next (e .standing)) e) (c .own in-range i) (recordAt b k))
 
 -- ---- whether the change fits decides: by the rule its number is the answer
 refused-fit : (x : Fit (List Order)) → fitNumber (fitOf x) ≢ 0 → ruled false false false x ≡ made-stale (fitNumber (fitOf x))
@@ -110,7 +109,7 @@ module _ (b : Book) (k : ℕ) (c : Change) (d : Deal) (t : Awaits b k) where
 
   -- orders that fit, a record dealt with and a number counted, each as its room's rule says
   pub enacts-done : (x : Changed) → fitNumber (x .fit) ≡ 0 → (y : Dealt) (s : Symbols)
-      → (Wf b → changing.Obeys (b .orders) k (applyTo (ordersAt b k) c) x) → (Wf b → dealing.Obeys (b .trades) k (dealTo (tradesAt b k) d) y) → (Wf b → Alters (b .symbols) k (countedIf (y .lost)) s)
+      → (Wf b → changing.Obeys (b .orders) k (applyTo (ordersAt b k) c) x) → (Wf b → dealing.Obeys (b .trades) k d y) → (Wf b → Alters (b .symbols) k (countedIf (y .lost)) s)
       → Enacts b k c d (record { book = record { symbols = s; orders = x .orders; trades = y .trades; market = b .market }; answer = 0 })
   unfolding among
   enacts-done x f y s p q a = record {

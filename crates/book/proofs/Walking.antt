@@ -1,11 +1,11 @@
 -- A move goes by the Msg Size, within the bytes, so a walk has messages enough to spare; the run's loop has walked some of it and has the rest to go.
 use mathlib.Core.Bool.{true, false, true≢false, false≢true}
 use mathlib.Core.List.{List, [], _∷_, _++_, append-nil}
-use mathlib.Core.Path.{_≡_, refl, sym, ap, _∙_}
+use mathlib.Core.Path.{_≡_, refl, sym, ap, _∙_, subst}
 use Prim.Native.Nat.{ℕ, zero, suc, _+_, _-_, _<_, _≤_}
 use native.Mathlib.Omega.{arith}
 use native.Mathlib.Nat.{add-zero, zero-add, add-suc, suc-add, add-sub-cancel-left}
-use lib.ListN.{length, take, drop, set, length-append, length-drop}
+use lib.ListN.{length, take, drop, set, length-append, length-drop, length-set}
 use lib.Seq.{append-snoc, drop-drop, drop-set-lt, sets}
 use Rattle.wire.specs.Outcome.{Outcome, done, refused}
 use Rattle.wire.specs.Reading.{Read, reachOf, readOf, decodedAs}
@@ -111,6 +111,7 @@ pub record Left (s : List ℕ) (from most : ℕ) (before : List ℕ) (b : Book) 
   pub spent : count + fuel ≡ most
   pub passed : List (List ℕ)
   pub counted : length passed ≡ count
+  pub long : length notes ≡ length before
   pub same-end : walkUpTo fuel s at .at ≡ walkUpTo most s from .at
   pub same-answer : walkUpTo fuel s at .answer ≡ walkUpTo most s from .answer
   pub split : passed ++ walkUpTo fuel s at .messages ≡ walkUpTo most s from .messages
@@ -129,6 +130,7 @@ left-all s from most before b = record {
   spent = zero-add most;
   passed = [];
   counted = refl;
+  long = refl;
   same-end = refl;
   same-answer = refl;
   split = refl;
@@ -156,24 +158,29 @@ module _ (s : List ℕ) (from most : ℕ) (before : List ℕ) (b : Book) (at cou
         obeys = λ w. record { wf = l .sound w; next-view = l .same-view w ∙ ap (stepsOf (view b)) whole; noted = l .noted w ∙ ap (λ (ms : List (List ℕ)). sets before 0 (answersOf (view b) ms)) whole };
       }
 
-  pub turn-stops : (a : ℕ) → reachOf (drop at s) ≡ refused a → NotesUpTo b s from most before (record { book = c; at = at; answer = a; count = count }) notes
-  unfolding walkUpTo
-  turn-stops a e = ends a (go (l .fuel))
-    where
-      go : (f : ℕ) → walkUpTo f s at ≡ record { messages = []; at = at; answer = a }
-      go zero = rw e
-      go (suc f) = rw e
+  -- x is that state, and r is handed back with it and this answer
+  module _ (stop : ℕ) (x : Book) (r : Noted) (that : x ≡ c) (back : r ≡ record { book = x; at = at; answer = stop; count = count }) where
+    handed : (a : ℕ) → stop ≡ a → NotesUpTo b s from most before (record { book = c; at = at; answer = a; count = count }) notes → NotesUpTo b s from most before r notes
+    handed a e p = subst (λ (y : Noted). NotesUpTo b s from most before y notes) (sym (back ∙ (λ i. record { book = that i; at = at; answer = e i; count = count }))) p
 
-  module _ (n : ℕ) (e : reachOf (drop at s) ≡ done n) where
-    -- as many as there may be
-    pub turn-full : most ≤ count → NotesUpTo b s from most before (record { book = c; at = at; answer = 15; count = count }) notes
+    pub turn-stops : (a : ℕ) → reachOf (drop at s) ≡ refused a → stop ≡ a → NotesUpTo b s from most before r notes
     unfolding walkUpTo
-    turn-full h = ends 15 (go (l .fuel) (l .spent))
+    turn-stops a e is = handed a is (ends a (go (l .fuel)))
+      where
+        go : (f : ℕ) → walkUpTo f s at ≡ record { messages = []; at = at; answer = a }
+        go zero = rw e
+        go (suc f) = rw e
+
+    -- as many as there may be
+    pub turn-full : (n : ℕ) → reachOf (drop at s) ≡ done n → most ≤ count → stop ≡ 15 → NotesUpTo b s from most before r notes
+    unfolding walkUpTo
+    turn-full n e h is = handed 15 is (ends 15 (go (l .fuel) (l .spent)))
       where
         go : (f : ℕ) → count + f ≡ most → walkUpTo f s at ≡ record { messages = []; at = at; answer = 15 }
         go zero z = rw e
         go (suc f) z = absurd (omega (arith, z, h))
 
+  module _ (n : ℕ) (e : reachOf (drop at s) ≡ done n) where
     pub turn-less : length s - (at + n) < length s - at
     turn-less = omega (arith, move-within s at n e, reached (drop at s) n e .least)
 
@@ -188,9 +195,10 @@ module _ (s : List ℕ) (from most : ℕ) (before : List ℕ) (b : Book) (at cou
       step-is : Wf b → stepOf (view c) (decodedAs d) ≡ stepIn (stepsOf (view b) (l .passed)) message
       step-is w = read ∙ ap (λ (v : View). stepIn v message) (l .same-view w)
 
-      pub turn-on : Left s from most before b (at + n) (count + 1) (set notes count (r .answer)) (r .book)
+      -- m is what the notes are then
+      pub turn-on : (m : List ℕ) → m ≡ set notes count (r .answer) → Left s from most before b (at + n) (count + 1) m (r .book)
       unfolding walkUpTo stepsOf answersOf
-      turn-on = go (l .fuel) (l .spent) (l .same-end) (l .same-answer) (l .split)
+      turn-on m is-set = subst (λ (z : List ℕ). Left s from most before b (at + n) (count + 1) z (r .book)) (sym is-set) (go (l .fuel) (l .spent) (l .same-end) (l .same-answer) (l .split))
         where
           go : (f : ℕ) → count + f ≡ most → walkUpTo f s at .at ≡ walkUpTo most s from .at → walkUpTo f s at .answer ≡ walkUpTo most s from .answer → l .passed ++ walkUpTo f s at .messages ≡ walkUpTo most s from .messages
               → Left s from most before b (at + n) (count + 1) (set notes count (r .answer)) (r .book)
@@ -200,6 +208,7 @@ module _ (s : List ℕ) (from most : ℕ) (before : List ℕ) (b : Book) (at cou
             spent = omega (arith, z);
             passed = l .passed ++ (message ∷ []);
             counted = length-append (l .passed) (message ∷ []) ∙ ap (λ (j : ℕ). j + 1) (l .counted);
+            long = length-set notes count (r .answer) ∙ l .long;
             same-end = (rw e at x);
             same-answer = (rw e at y);
             split = append-snoc (l .passed) message (walkUpTo g s (at + n) .messages) ∙ (rw e at t);

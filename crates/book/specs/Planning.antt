@@ -1,6 +1,6 @@
 -- How a message is done in place: what is said of each piece of a plan. No rule of document 01 stands here, and nothing here need be believed: a plan is held to the rule by the step's own
 -- promise.
-use mathlib.Core.Bool.{Bool}
+use mathlib.Core.Bool.{Bool, true, false}
 use mathlib.Core.List.{List}
 use mathlib.Core.Path.{_≡_}
 use Prim.Native.Nat.{ℕ, suc, _*_, _<_}
@@ -22,6 +22,7 @@ use Rattle.orders.specs.declared.Fit as code
 use Rattle.orders.specs.declared.landing.Landing.{Landing}
 use Rattle.orders.specs.declared.rules.Verdict.{Verdict}
 use Rattle.record.specs.declared.Trade.{Trade}
+use Rattle.record.specs.declared.Cross.{Cross}
 use Rattle.record.specs.declared.Record.{Record}
 use Rattle.record.specs.declared.Deal.{Deal}
 use Rattle.book.specs.State.{View, ordersAt, view}
@@ -38,11 +39,11 @@ use Rattle.book.specs.declared.plans.Way.{Way}
 use Rattle.book.specs.declared.plans.Plan.{Plan}
 
 -- ---- a state, array by array
-abbrev pub bookOf : List Place → List ℕ → List Order → List ℕ → List Bool → List ℕ → List Trade → List ℕ → ℕ → Book
-bookOf places seats orders numbers lives spans trades tickets market = record {
+abbrev pub bookOf : List Place → List ℕ → List Order → List ℕ → List Bool → List ℕ → List Trade → List ℕ → List Cross → List ℕ → ℕ → Book
+bookOf places seats orders numbers lives spans trades tickets crosses stubs market = record {
   symbols = record { places = places; tickets = seats };
   orders = record { places = orders; numbers = numbers; lives = lives; spans = spans };
-  trades = record { places = trades; tickets = tickets };
+  trades = record { places = trades; tickets = tickets; crosses = crosses; stubs = stubs };
   market = market;
 }
 
@@ -51,6 +52,8 @@ abbrev pub dealBy : Dealing → ℕ → ℕ → ℕ → Deal
 dealBy Dealing.Nothing n p v = Deal.Nothing
 dealBy Dealing.Records n p v = Deal.Records n p v
 dealBy Dealing.Cancels n p v = Deal.Cancels n
+dealBy Dealing.Crosses n p v = Deal.Crosses n v
+dealBy Dealing.Corrects n p v = Deal.Corrects n v
 
 abbrev pub changeIn : Heard → Change
 changeIn h = changeAs (h .edit)
@@ -131,7 +134,6 @@ Lays b k c l = (m : Beside) → Mirrors (besides (b .orders)) k (l .gone) (l .pl
 abbrev pub LandsBy : Book → ℕ → Change → Landing → Way → Type 0
 LandsBy b k c l Way.Nothing = ⊥
 LandsBy b k c l Way.Lands = Lays b k c l
-LandsBy b k c l Way.Deals = Lays b k c l
 LandsBy b k c l Way.Steps = Unit {0}
 
 abbrev pub PlansLanding : Book → ℕ → Change → Plan → Type 0
@@ -140,33 +142,28 @@ PlansLanding b k c r = LandsBy b k c (r .landing) (r .way)
 abbrev pub PlansBy : Book → Read → Heard → ℕ → ℕ → Landing → Way → Type 0
 PlansBy b x h k a l Way.Nothing = stepOf (view b) x ≡ refusing (view b) a
 PlansBy b x h k a l Way.Lands = InTurn b x k (changeIn h) (dealIn h) × Lays b k (changeIn h) l
-PlansBy b x h k a l Way.Deals = InTurn b x k (changeIn h) (dealIn h) × Lays b k (changeIn h) l
 PlansBy b x h k a l Way.Steps = Unit {0}
 
 abbrev pub Plans : Book → Read → Heard → ℕ → Plan → Type 0
 Plans b x h k r = PlansBy b x h k (r .answer) (r .landing) (r .way)
 
--- a landing that brings something to the record deals
-abbrev pub wayWith : Way → Deal → Way
-wayWith Way.Nothing d = Way.Nothing
-wayWith Way.Lands Deal.Nothing = Way.Lands
-wayWith Way.Lands (Deal.Records n p v) = Way.Deals
-wayWith Way.Lands (Deal.Cancels n) = Way.Deals
-wayWith Way.Deals d = Way.Deals
-wayWith Way.Steps d = Way.Steps
+-- whether a deal brings anything to the record
+abbrev pub bringsNothing : Deal → Bool
+bringsNothing Deal.Nothing = true
+bringsNothing (Deal.Records n p v) = false
+bringsNothing (Deal.Cancels n) = false
+bringsNothing (Deal.Crosses n v) = false
+bringsNothing (Deal.Corrects n v) = false
 
 -- every store is within its array
 abbrev pub Within : Plan → Type 0
 Within r = (r .landing .emptied < symbols * ordersEach) × (r .landing .filled < symbols * ordersEach)
 
--- ---- the state once all is stored: the symbol at its seat, the orders, and the record with a trade at its slot
-abbrev pub dealtIn : Book → ℕ → Trade → ℕ → Record
-dealtIn b slot t n = record { places = set (b .trades .places) slot t; tickets = set (b .trades .tickets) slot n }
-
-abbrev pub landedIn : Book → ℕ → Place → Landing → Beside → Record → Book
-landedIn b seat p l m ts = record {
+-- ---- the state once all is stored: the symbol at its seat, the orders, and this record
+abbrev pub landedIn : Book → ℕ → Place → Order → Landing → Beside → Record → Book
+landedIn b seat p none l m ts = record {
   symbols = record { places = set (b .symbols .places) seat p; tickets = b .symbols .tickets };
-  orders = laidIn (b .orders) l m;
+  orders = record { places = set (set (b .orders .places) (l .emptied) none) (l .filled) (l .order); numbers = m .numbers; lives = m .lives; spans = m .spans };
   trades = ts;
   market = b .market;
 }

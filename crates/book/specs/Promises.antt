@@ -3,7 +3,7 @@ use mathlib.Core.Bool.{Bool, true, false}
 use mathlib.Core.List.{[], _∷_}
 use mathlib.Core.Option.{some}
 use mathlib.Core.Path.{_≡_}
-use Prim.Native.Nat.{ℕ, _<_}
+use Prim.Native.Nat.{ℕ, _+_, _<_}
 use lib.ListN.{set}
 use Rattle.feed.specs.Reader.{ruled}
 use Rattle.places.specs.Places.{symbols, among}
@@ -13,8 +13,8 @@ use Rattle.symbols.specs.Promises.{Alters}
 use Rattle.orders.specs.Rules.{applyTo}
 use Rattle.orders.specs.declared.Change.{Change}
 use Rattle.record.specs.declared.Deal.{Deal}
-use Rattle.book.specs.State.{Symbol, View, withPlaces, Next, entryAt, ordersAt, tradesAt, symbolOf, view, placeIn, symbolIn, Wf}
-use Rattle.book.specs.Step.{changeOf, dealOf, madeStale, enacted, put}
+use Rattle.book.specs.State.{Symbol, View, withPlaces, Next, entryAt, ordersAt, recordAt, symbolOf, view, placeIn, symbolIn, Wf}
+use Rattle.book.specs.Step.{becomes, changeOf, dealOf, madeStale, enacted, put}
 use Rattle.book.specs.declared.Book.{Book}
 use Rattle.book.specs.declared.Done.{Done}
 use Rattle.book.specs.declared.acts.Effect.{Effect}
@@ -32,6 +32,10 @@ pub record BecomesStale (v : View) (index : ℕ) (w : View) : Type 0 where
   pub symbol : Symbol
   pub there : symbolIn index v ≡ some symbol
   pub next-view : w ≡ withPlaces v (set (v .places) (placeIn index v) (some (madeStale symbol)))
+
+-- its number is used and the mark goes; nothing else of it changes
+abbrev pub leftOut : Symbol → Symbol
+leftOut s = becomes s (record { expected = s .entry .standing .expected + 1; stale = s .entry .standing .stale; whole = false }) (s .orders) (s .kept)
 
 -- the next state is sound, its view is the rule's, and so is the answer
 pub record Obeys (x : Next) (b : Book) (a : ℕ) : Type 0 where
@@ -65,7 +69,7 @@ pub record Enacts (b : Book) (k : ℕ) (c : Change) (d : Deal) (r : Done) : Type
   pub market : view (r .book) .market ≡ view b .market
   pub changes : unchanging (r .answer) ≡ false
   pub obeys : (e : Entry) → entryAt b k ≡ some e → Wf b
-      → Obeys (put (view b) k (enacted (symbolOf e (ordersAt b k) (tradesAt b k)) d (ruled false false false (applyTo (ordersAt b k) c)))) (r .book) (r .answer)
+      → Obeys (put (view b) k (enacted (symbolOf e (ordersAt b k) (recordAt b k)) d (ruled false false false (applyTo (ordersAt b k) c)))) (r .book) (r .answer)
 
 -- so with a message in its turn
 abbrev pub Settles : Book → ℕ → Effect → Done → Type 0

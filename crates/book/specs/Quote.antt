@@ -2,7 +2,8 @@
 use mathlib.Core.Bool.{Bool, true, false}
 use mathlib.Core.List.{List}
 use mathlib.Core.Option.{Option, none, some}
-use Prim.Native.Nat.{ℕ}
+use mathlib.Core.Path.{_≡_}
+use Prim.Native.Nat.{ℕ, _+_}
 use Rattle.orders.specs.Levels.{levelOf}
 use Rattle.orders.specs.declared.Order.{Order}
 use Rattle.orders.specs.declared.levels.Level.{Level}
@@ -26,13 +27,18 @@ quoted (some s) = quotedIf (s .entry .standing .stale) (s .orders)
 unfoldable pub quoteOf : ℕ → View → Quote
 quoteOf index v = quoted (symbolIn index v)
 
--- the day's volume is the sum over kept trades, given in any state
+-- the day's volume is the sum over kept trades and crosses, given in any state
 abbrev pub volumeIn : Option Symbol → Volume
 volumeIn none = record { answer = 5; shares = 0; whole = false }
-volumeIn (some s) = record { answer = 0; shares = sharesOf (s .trades); whole = s .entry .standing .whole }
+volumeIn (some s) = record { answer = 0; shares = sharesOf (s .kept); whole = s .entry .standing .whole }
 
 unfoldable pub volumeOf : ℕ → View → Volume
 volumeOf index v = volumeIn (symbolIn index v)
+
+-- of a volume: these shares are in the place of those, and the mark is as it was
+pub record Replaces (old new : ℕ) (before after : Volume) : Type 0 where
+  pub shares : after .shares + old ≡ before .shares + new
+  pub whole : after .whole ≡ before .whole
 
 -- ---- what is said of a quote: one side of it
 abbrev pub sideOf : Bool → Quote → Level

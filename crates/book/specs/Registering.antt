@@ -3,6 +3,7 @@ use mathlib.Core.List.{List, []}
 use mathlib.Core.Option.{Option·map}
 use Prim.Native.Nat.{ℕ}
 use Rattle.symbols.specs.State.{Entry}
+use Rattle.record.specs.State.{nothingKept}
 use Rattle.symbols.specs.Registering as symbols-room
 use Rattle.symbols.specs.Registering.{registered, toldOf}
 use Rattle.symbols.specs.declared.registering.Listing.{Listing}
@@ -10,7 +11,7 @@ use Rattle.book.specs.State.{Symbol, View, withPlaces, Next, symbolOf, e
 
 -- a new symbol has nothing live and nothing recorded
 abbrev pub started : Entry → Symbol
-started e = symbolOf e [] []
+started e = symbolOf e [] nothingKept
 
 -- the places are those of the rule, and the market stays
 abbrev pub placing : View → symbols-room.Next Symbol → Next

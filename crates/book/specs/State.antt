@@ -13,15 +13,14 @@ use Rattle.orders.specs.State as orders-room
 use Rattle.orders.specs.State.{liveAt, noOrders}
 use Rattle.orders.specs.declared.Order.{Order}
 use Rattle.record.specs.State as record-room
-use Rattle.record.specs.State.{keptAt, noTrades}
-use Rattle.record.specs.declared.Trade.{Trade}
+use Rattle.record.specs.State.{Kept, nothingKept, keptAt, noTrades}
 use Rattle.book.specs.declared.Book.{Book}
 
--- ---- what is kept of a symbol: its entry, its live orders in the order of their numbers, its kept trades likewise
+-- ---- what is kept of a symbol: its entry, its live orders in the order of their numbers, its kept trades and crosses likewise
 pub record Symbol : Type 0 where
   pub entry : Entry
   pub orders : List Order
-  pub trades : List Trade
+  pub kept : Kept
 
 -- ---- the view: the market that the state was made for, and eight places of registration, each empty or with its symbol
 pub record View : Type 0 where
@@ -43,14 +42,14 @@ entryAt b k = getD (entries (b .symbols)) k none
 abbrev pub ordersAt : Book → ℕ → List Order
 ordersAt b k = liveAt (b .orders) k
 
-abbrev pub tradesAt : Book → ℕ → List Trade
-tradesAt b k = keptAt (b .trades) k
+abbrev pub recordAt : Book → ℕ → Kept
+recordAt b k = keptAt (b .trades) k
 
-abbrev pub symbolOf : Entry → List Order → List Trade → Symbol
-symbolOf e os ts = record { entry = e; orders = os; trades = ts }
+abbrev pub symbolOf : Entry → List Order → Kept → Symbol
+symbolOf e os x = record { entry = e; orders = os; kept = x }
 
 unfoldable pub view : Book → View
-view b = record { market = marketOf (b .market); places = tabulate symbols (λ k. Option·map (λ e. symbolOf e (ordersAt b k) (tradesAt b k)) (entryAt b k)) }
+view b = record { market = marketOf (b .market); places = tabulate symbols (λ k. Option·map (λ e. symbolOf e (ordersAt b k) (recordAt b k)) (entryAt b k)) }
 
 -- ---- the symbol with an index, and where it stands
 abbrev pub entryOf : Symbol → Entry
@@ -76,7 +75,7 @@ pub record Wf (b : Book) : Type 0 where
   pub orders : orders-room.Wf (b .orders)
   pub trades : record-room.Wf (b .trades)
   pub no-orders : (k : ℕ) → k < symbols → entryAt b k ≡ none → ordersAt b k ≡ []
-  pub no-trades : (k : ℕ) → k < symbols → entryAt b k ≡ none → tradesAt b k ≡ []
+  pub no-record : (k : ℕ) → k < symbols → entryAt b k ≡ none → recordAt b k ≡ nothingKept
 
 -- ---- the new state of a market: every place empty
 abbrev pub newView : Market → View

@@ -15,9 +15,9 @@ use Rattle.symbols.specs.declared.Standing.{Standing}
 use Rattle.orders.specs.Rules.{applyTo}
 use Rattle.orders.specs.declared.Order.{Order}
 use Rattle.orders.specs.declared.Change.{Change}
-use Rattle.record.specs.Rules.{dealTo}
+use Rattle.record.specs.State.{Kept}
+use Rattle.record.specs.Rules.{keptAfter, lostBy}
 use Rattle.record.specs.declared.Deal.{Deal}
-use Rattle.record.specs.declared.Trade.{Trade}
 use Rattle.book.specs.State.{Symbol, View, withPlaces, Next, symbolOf, placeIn, symbolIn}
 use Rattle.book.specs.declared.acts.Effect.{Effect}
 use Rattle.book.specs.declared.acts as code
@@ -27,23 +27,23 @@ pub record Meeting : Type 0 where
   pub symbol : Symbol
   pub answer : ℕ
 
--- the same symbol where it then stands, with these orders and trades
-abbrev pub becomes : Symbol → Standing → List Order → List Trade → Symbol
-becomes s t os ts = symbolOf (standingAt t (s .entry)) os ts
+-- the same symbol where it then stands, with these orders and this record
+abbrev pub becomes : Symbol → Standing → List Order → Kept → Symbol
+becomes s t os x = symbolOf (standingAt t (s .entry)) os x
 
--- stale, with the orders and trades that it had
+-- stale, with the orders and the record that it had
 abbrev pub madeStale : Symbol → Symbol
-madeStale s = becomes s (staled (s .entry .standing)) (s .orders) (s .trades)
+madeStale s = becomes s (staled (s .entry .standing)) (s .orders) (s .kept)
 
 -- a ruling carried out; `ruled` has the rows of "Numbers answered"
 unfoldable pub enacted : Symbol → Deal → Ruling (List Order) → Meeting
 enacted s d (unchanged a) = record { symbol = s; answer = a }
 enacted s d (made-stale a) = record { symbol = madeStale s; answer = a }
-enacted s d (applied os) = record { symbol = becomes s (counted (dealTo (s .trades) d .lost) (s .entry .standing)) os (dealTo (s .trades) d .trades); answer = 0 }
+enacted s d (applied os) = record { symbol = becomes s (counted (lostBy (s .kept) d) (s .entry .standing)) os (keptAfter (s .kept) d); answer = 0 }
 
 -- a clear: no orders, and a new start of the numbers
 abbrev pub cleared : Symbol → ℕ → Meeting
-cleared s next = record { symbol = becomes s (restarted next (s .entry .standing)) [] (s .trades); answer = 0 }
+cleared s next = record { symbol = becomes s (restarted next (s .entry .standing)) [] (s .kept); answer = 0 }
 
 -- each effect taken apart: what it does to the orders, and what it brings to the record
 abbrev pub apart : Effect → Change × Deal
@@ -95,9 +95,9 @@ meant (Message.Execute h n t p v printable) = numbered (h .index) (h .number) (E
 meant (Message.Replace h old n p v side) = numbered (h .index) (h .number) (Effect.Replace old n (buys side) p v)
 meant (Message.Imbalance h seconds) = numbered (h .index) (h .number) (Effect.Other Deal.Nothing)
 meant (Message.NonDisplayed h t p v printable) = numbered (h .index) (h .number) (Effect.Other (ifPrintable printable t p v))
-meant (Message.Cross h cross p v class) = numbered (h .index) (h .number) (Effect.Other Deal.Nothing)
+meant (Message.Cross h cross p v class) = numbered (h .index) (h .number) (Effect.Other (Deal.Crosses cross v))
 meant (Message.TradeCancel h t) = numbered (h .index) (h .number) (Effect.Other (Deal.Cancels t))
-meant (Message.CrossCorrection h cross v) = numbered (h .index) (h .number) (Effect.Other Deal.Nothing)
+meant (Message.CrossCorrection h cross v) = numbered (h .index) (h .number) (Effect.Other (Deal.Corrects cross v))
 meant (Message.Retail h indicator) = numbered (h .index) (h .number) (Effect.Other Deal.Nothing)
 meant (Message.Clear h seconds) = clearing (h .index) (h .number)
 meant (Message.Status h seconds) = numbered (h .index) (h .number) (Effect.Other Deal.Nothing)

@@ -46,6 +46,8 @@ pub(crate) enum Dealing {
     Nothing,
     Records,
     Cancels,
+    Crosses,
+    Corrects,
 }
 
 // How it stands with it at its symbol: refused; in its turn; or a step's.
@@ -120,6 +122,8 @@ pub(crate) fn deal_of(h: Heard) -> Deal
         Dealing::Nothing => Deal::Nothing,
         Dealing::Records => Deal::Records(h.trade, h.price, h.volume),
         Dealing::Cancels => Deal::Cancels(h.trade),
+        Dealing::Crosses => Deal::Crosses(h.trade, h.volume),
+        Dealing::Corrects => Deal::Corrects(h.trade, h.volume),
     }
 }
 
@@ -192,11 +196,21 @@ fn heard_of(m: Message) -> Heard
             price,
             volume,
         ),
-        Message::Cross { head, .. } => other(head),
+        Message::Cross {
+            head,
+            cross,
+            price: _,
+            volume,
+            class: _,
+        } => trading(head, Kind::Nothing, 0, Dealing::Crosses, cross, 0, volume),
         Message::TradeCancel { head, trade } => {
             trading(head, Kind::Nothing, 0, Dealing::Cancels, trade, 0, 0)
         }
-        Message::CrossCorrection { head, .. } => other(head),
+        Message::CrossCorrection {
+            head,
+            cross,
+            volume,
+        } => trading(head, Kind::Nothing, 0, Dealing::Corrects, cross, 0, volume),
         Message::Retail { head, .. } => other(head),
         Message::Clear { .. } => unnumbered(Tone::Clear, 0),
         Message::Status { head, .. } => other(head),

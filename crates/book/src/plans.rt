@@ -18,13 +18,12 @@ ghost use Rattle.orders.specs.Deciding.{changeAs, besides, beside, LandsAs};
 ghost use Rattle.book.specs.State.{Wf};
 ghost use Rattle.book.specs.declared.Book.{Book};
 ghost use Rattle.book.specs.declared.hearing.Heard.{Heard};
-ghost use Rattle.book.specs.Planning.{changeIn, TurnIn, Looked, Judged, wayWith, Plans, PlansLanding, Within};
+ghost use Rattle.book.specs.Planning.{changeIn, TurnIn, Looked, Judged, bringsNothing, Plans, PlansLanding, Within};
 
-// The ways. A plan that lands says where: the orders change so, and what the symbol expects; one that deals does so too, and changes the record. One that does nothing has its answer.
+// The ways. A plan that lands says where the orders change; then what the message brings goes to the record, and its number is counted. One that does nothing has its answer.
 pub(crate) enum Way {
     Nothing,
     Lands,
-    Deals,
     Steps,
 }
 
@@ -58,25 +57,16 @@ pub(crate) fn planned<'a>(
     }
 }
 
-// A landing that brings something to the record deals.
-pub(crate) fn with_deal(way: Way, deal: Deal) -> Way
-    ensures { λ r. ⌜ r ≡ wayWith way deal ⌝ }
-{
-    match way {
-        Way::Nothing => Way::Nothing,
-        Way::Lands => landing_with(deal),
-        Way::Deals => Way::Deals,
-        Way::Steps => Way::Steps,
-    }
-}
-
-fn landing_with(deal: Deal) -> Way
-    ensures { λ r. ⌜ r ≡ wayWith Way.Lands deal ⌝ }
+// Whether a deal brings anything to the record.
+pub(crate) fn brings_nothing(deal: Deal) -> bool
+    ensures { λ r. ⌜ r ≡ bringsNothing deal ⌝ }
 {
     match deal {
-        Deal::Nothing => Way::Lands,
-        Deal::Records(_, _, _) => Way::Deals,
-        Deal::Cancels(_) => Way::Deals,
+        Deal::Nothing => true,
+        Deal::Records(_, _, _) => false,
+        Deal::Cancels(_) => false,
+        Deal::Crosses(_, _) => false,
+        Deal::Corrects(_, _) => false,
     }
 }
 

@@ -6,8 +6,8 @@ use crate::hearing::hear;
 use crate::hearing::seat_of;
 use crate::hearing::turn_in;
 use crate::plans::Way;
+use crate::plans::brings_nothing;
 use crate::plans::planned;
-use crate::plans::with_deal;
 use orders::Order;
 use orders::Orders;
 use orders::looked;
@@ -15,9 +15,12 @@ use orders::mirror;
 use orders::no_order;
 use places::SYMBOLS;
 use places::spot;
+use record::Cross;
 use record::Record;
 use record::Trade;
+use record::cross_or;
 use record::decided;
+use record::stub_of;
 use record::ticket_of;
 use record::trade_or;
 use symbols::Place;
@@ -133,54 +136,19 @@ impl Book {
         let record = self.trades;
         let mut trades = record.places;
         let mut tickets = record.tickets;
+        let mut crosses = record.crosses;
+        let mut stubs = record.stubs;
         let none = no_order();
         let mut here = at;
         let mut count: usize = 0;
-        loop {
+        let stop = loop {
             let reach = wire::reach_at(s, here);
             match reach {
-                Reach::Short => {
-                    let book = book_of(
-                        places,
-                        seats,
-                        orders,
-                        numbers,
-                        lives,
-                        spans,
-                        trades,
-                        tickets,
-                        kept,
-                    );
-                    return noting(book, here, 1, count);
-                }
-                Reach::Small => {
-                    let book = book_of(
-                        places,
-                        seats,
-                        orders,
-                        numbers,
-                        lives,
-                        spans,
-                        trades,
-                        tickets,
-                        kept,
-                    );
-                    return noting(book, here, 2, count);
-                }
+                Reach::Short => break 1,
+                Reach::Small => break 2,
                 Reach::Size(size) => {
                     if most <= count {
-                        let book = book_of(
-                            places,
-                            seats,
-                            orders,
-                            numbers,
-                            lives,
-                            spans,
-                            trades,
-                            tickets,
-                            kept,
-                        );
-                        return noting(book, here, 15, count);
+                        break 15;
                     }
                     let end = here + size;
                     let d = wire::decode(market, &s[here..end]);
@@ -198,8 +166,7 @@ impl Book {
                     let x = orders[found];
                     let plan = planned(&numbers, &lives, &spans, k, i, x, change, t);
                     let deal = deal_of(h);
-                    let settled = plan.way;
-                    let way = with_deal(settled, deal);
+                    let way = plan.way;
                     match way {
                         Way::Nothing => note(notes, j, plan.answer),
                         Way::Lands => {
@@ -218,34 +185,26 @@ impl Book {
                                 l.place,
                                 order,
                             );
-                            let q = places[seat];
-                            let next = counted(q, false);
-                            places[seat] = next;
-                            note(notes, j, 0);
-                        }
-                        Way::Deals => {
-                            let l = plan.landing;
-                            let emptied = l.emptied;
-                            let filled = l.filled;
-                            let laid = l.order;
-                            orders[emptied] = none;
-                            orders[filled] = laid;
-                            mirror(
-                                &mut numbers,
-                                &mut lives,
-                                &mut spans,
-                                k,
-                                l.gone,
-                                l.place,
-                                laid,
-                            );
-                            let r = decided(&tickets, k, deal);
+                            if brings_nothing(deal) {
+                                let q = places[seat];
+                                let next = counted(q, false);
+                                places[seat] = next;
+                                note(notes, j, 0);
+                                continue;
+                            }
+                            let r = decided(&tickets, &stubs, k, deal);
                             let slot = spot(k, record::EACH, r.place);
                             let lies = trades[slot];
                             let brought = r.trade;
                             let trade = trade_or(r.place, brought, lies);
                             trades[slot] = trade;
                             tickets[slot] = ticket_of(trade);
+                            let corner = spot(k, record::CROSSES_EACH, r.nook);
+                            let stands = crosses[corner];
+                            let crossing = r.cross;
+                            let cross = cross_or(r.nook, crossing, stands);
+                            crosses[corner] = cross;
+                            stubs[corner] = stub_of(cross);
                             let q = places[seat];
                             let next = counted(q, r.lost);
                             places[seat] = next;
@@ -261,6 +220,8 @@ impl Book {
                                 spans,
                                 trades,
                                 tickets,
+                                crosses,
+                                stubs,
                                 kept,
                             );
                             let r = book.step(d);
@@ -277,12 +238,28 @@ impl Book {
                             let record = next.trades;
                             trades = record.places;
                             tickets = record.tickets;
+                            crosses = record.crosses;
+                            stubs = record.stubs;
                             note(notes, j, r.answer);
                         }
                     }
                 }
             }
-        }
+        };
+        let book = book_of(
+            places,
+            seats,
+            orders,
+            numbers,
+            lives,
+            spans,
+            trades,
+            tickets,
+            crosses,
+            stubs,
+            kept,
+        );
+        noting(book, here, stop, count)
     }
 }
 
@@ -296,9 +273,11 @@ fn book_of(
     spans: [u16; orders::PLACES],
     kept: [Trade; record::PLACES],
     tickets: [u64; record::PLACES],
+    crosses: [Cross; record::CROSS_PLACES],
+    stubs: [u64; record::CROSS_PLACES],
     market: u16,
 ) -> Book
-    ensures { λ r. ⌜ r ≡ bookOf places seats live numbers lives spans kept tickets market ⌝ }
+    ensures { λ r. ⌜ r ≡ bookOf places seats live numbers lives spans kept tickets crosses stubs market ⌝ }
 {
     let symbols = Symbols {
         places,
@@ -313,6 +292,8 @@ fn book_of(
     let trades = Record {
         places: kept,
         tickets,
+        crosses,
+        stubs,
     };
     Book {
         symbols,

@@ -15,3 +15,4 @@ pub mod Unfaithful
 pub mod EveryNumber
 pub mod Lent
 pub mod Noted
+pub mod Auctions

@@ -1,9 +1,9 @@
 -- Demand 2 of document 00, gathered: what is quoted of a state, and what a message does to it.
-use Prim.Native.Nat.{ℕ, _+_, _≤_}
+use Prim.Native.Nat.{ℕ, _+_, _<_, _≤_}
 use mathlib.Core.Bool.{Bool, true, false}
 use mathlib.Core.List.{List, [], _∷_, List·Memᴰ}
 use mathlib.Core.Logic.{_≢_}
-use mathlib.Core.Option.{some}
+use mathlib.Core.Option.{none, some}
 use mathlib.Core.Path.{_≡_}
 use lib.Dec.{eqb}
 use lib.ListN.{length, drop}
@@ -17,14 +17,15 @@ use Rattle.wire.specs.declared.Head.{Head}
 use Rattle.wire.specs.declared.Message.{Message}
 use Rattle.markets.specs.declared.Market.{Market}
 use Rattle.feed.specs.Reader.{indexOf}
-use Rattle.places.specs.Places.{count, sumBy}
+use Rattle.places.specs.Places.{count, look, sumBy}
 use Rattle.orders.specs.State.{ordersEach, orderNumber}
-use Rattle.record.specs.State.{tradesEach, tradeNumber}
+use Rattle.record.specs.State.{tradesEach, crossesEach, tradeNumber, crossNumber}
+use Rattle.record.specs.declared.Cross.{Cross}
 use Rattle.book.specs.State.{Symbol, view, symbolIn, liveIn}
-use Rattle.book.specs.Promises.{Obeys, Steps}
+use Rattle.book.specs.Promises.{leftOut, Obeys, Steps}
 use Rattle.book.specs.Registering.{registerOf}
 use Rattle.orders.specs.Levels.{counts, sharesAt, NoBetter, Attained, TakesOff}
-use Rattle.book.specs.Quote.{sideOf, volumeOf}
+use Rattle.book.specs.Quote.{volumeOf, Replaces, sideOf}
 use Rattle.book.specs.Step.{buys, meant}
 use Rattle.book.specs.Walk.{moveOf, walkOf, runOf, Moves, Runs}
 use Rattle.book.specs.declared.Book.{Book}
@@ -48,11 +49,19 @@ pub record OfSymbol (b : Book) (index : ℕ) (s : Symbol) : Type 0 where
   pub best-price : (buy : Bool) (price size : ℕ) → sideOf buy (quoteIn b index) ≡ Level.Best price size → (o : _) → List·Memᴰ o (s .orders) → counts buy o ≡ true → NoBetter buy price (o .price)
   -- and where a quote shows none on a side, none is live there
   pub none-live : (buy : Bool) → quoteIn b index .answer ≡ 0 → sideOf buy (quoteIn b index) ≡ Level.Empty → (o : _) → List·Memᴰ o (s .orders) → counts buy o ≡ true → ⊥
-  -- no more live orders than a symbol's places, and at most one of a number; of the kept trades likewise
+  -- no more live orders than a symbol's places, and at most one of a number; of the kept trades and of the kept crosses likewise
   pub orders-within : length (s .orders) ≤ ordersEach
   pub one-live : (number : ℕ) → count (λ o. eqb (orderNumber o) number) (s .orders) ≤ 1
-  pub trades-within : length (s .trades) ≤ tradesEach
-  pub one-kept : (number : ℕ) → count (λ t. eqb (tradeNumber t) number) (s .trades) ≤ 1
+  pub trades-within : length (s .kept .trades) ≤ tradesEach
+  pub one-kept : (number : ℕ) → count (λ t. eqb (tradeNumber t) number) (s .kept .trades) ≤ 1
+  pub crosses-within : length (s .kept .crosses) ≤ crossesEach
+  pub one-cross : (number : ℕ) → count (λ x. eqb (crossNumber x) number) (s .kept .crosses) ≤ 1
+
+-- ---- of auctions (M-102): a cross of a number that is kept, a cross where the list is full, and a correction of a cross that isn't kept are left out of the record of symbol x
+pub data LeavesOut (x : Symbol) : Message → Type 0 where
+  repeated : (head : Head) (cross price volume class : ℕ) (y : Cross) → look crossNumber cross (x .kept .crosses) ≡ some y → LeavesOut x (Message.Cross head cross price volume class)
+  full : (head : Head) (cross price volume class : ℕ) → crossesEach ≤ length (x .kept .crosses) → LeavesOut x (Message.Cross head cross price volume class)
+  unknown : (head : Head) (cross volume : ℕ) → look crossNumber cross (x .kept .crosses) ≡ none → LeavesOut x (Message.CrossCorrection head cross volume)
 
 -- ---- of a message: what `apply` makes of it at a position
 pub record OfMessage (b : Book) (s : List ℕ) (at : ℕ) (r : Moved) : Type 0 where
@@ -64,6 +73,17 @@ pub record OfMessage (b : Book) (s : List ℕ) (at : ℕ) (r : Moved) : Type 0 w
   -- an execution that is done takes its volume off at the price and side of its order, which was live, whatever the price of the trade; the sum at every other stays
   pub execution : {m : List ℕ} (head : Head) (order trade price volume printable : ℕ) → StandsAt s at m → readOf (view b .market) m .outcome ≡ done (Message.Execute head order trade price volume printable) → r .answer ≡ 0
       → TakesOff order volume (liveIn (head .index) (view b)) (liveIn (head .index) (view (r .book)))
+  -- a cross that is done counts: where its number isn't kept and there is room, the day's volume rises by its volume, and the mark is as it was
+  pub cross-counts : {m : List ℕ} (head : Head) (cross price volume class : ℕ) (x : Symbol) → StandsAt s at m → readOf (view b .market) m .outcome ≡ done (Message.Cross head cross price volume class) → r .answer ≡ 0
+      → symbolIn (head .index) (view b) ≡ some x → look crossNumber cross (x .kept .crosses) ≡ none → length (x .kept .crosses) < crossesEach
+      → volumeOf (head .index) (view (r .book)) ≡ record { answer = 0; shares = volumeOf (head .index) (view b) .shares + volume; whole = volumeOf (head .index) (view b) .whole }
+  -- a correction that is done counts: in the day's volume its volume is in the place of the one that its cross had, and the mark is as it was
+  pub correction-counts : {m : List ℕ} (head : Head) (cross volume : ℕ) (x : Symbol) (y : Cross) → StandsAt s at m → readOf (view b .market) m .outcome ≡ done (Message.CrossCorrection head cross volume) → r .answer ≡ 0
+      → symbolIn (head .index) (view b) ≡ some x → look crossNumber cross (x .kept .crosses) ≡ some y
+      → Replaces (y .volume) volume (volumeOf (head .index) (view b)) (volumeOf (head .index) (view (r .book)))
+  -- one that is done and left out uses its number and takes the mark: nothing else of its symbol changes
+  pub left-out : {m : List ℕ} (message : Message) (x : Symbol) → StandsAt s at m → readOf (view b .market) m .outcome ≡ done message → r .answer ≡ 0
+      → symbolIn (indexOf (meant message)) (view b) ≡ some x → LeavesOut x message → symbolIn (indexOf (meant message)) (view (r .book)) ≡ some (leftOut x)
   -- a message for one symbol changes nothing kept for another: orders, record, mark, number, name and scale; nor does a refusal
   pub others-unchanged : (index : ℕ) → ((m : List ℕ) → StandsAt s at m → NotFor (view b .market) index m) → symbolIn index (view (r .book)) ≡ symbolIn index (view b)
   -- a record that has lost its mark does not get it back

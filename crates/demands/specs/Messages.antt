@@ -27,18 +27,34 @@ add number order side price volume =
 abbrev pub delete : (number order : ℕ) → List ℕ
 delete number order = fieldBytes ((2, 25) ∷ (2, 102) ∷ (4, 125) ∷ (4, index) ∷ (4, number) ∷ (8, order) ∷ (1, 0) ∷ [])
 
--- printed under a trade number, with these conditions
+-- under a trade number, printed or not, with these conditions
+abbrev pub executeAs : (printable settlement exemption hours detail : ℕ) (number order trade price volume : ℕ) → List ℕ
+executeAs printable settlement exemption hours detail number order trade price volume =
+    fieldBytes ((2, 42) ∷ (2, 103) ∷ (4, 125) ∷ (4, index) ∷ (4, number) ∷ (8, order) ∷ (4, trade) ∷ (4, price) ∷ (4, volume) ∷ (1, printable) ∷ (1, 0) ∷ (1, settlement) ∷ (1, exemption) ∷ (1, hours) ∷ (1, detail) ∷ [])
+
 abbrev pub executeWith : (settlement exemption hours detail : ℕ) (number order trade price volume : ℕ) → List ℕ
-executeWith settlement exemption hours detail number order trade price volume =
-    fieldBytes ((2, 42) ∷ (2, 103) ∷ (4, 125) ∷ (4, index) ∷ (4, number) ∷ (8, order) ∷ (4, trade) ∷ (4, price) ∷ (4, volume) ∷ (1, 1) ∷ (1, 0) ∷ (1, settlement) ∷ (1, exemption) ∷ (1, hours) ∷ (1, detail) ∷ [])
+executeWith = executeAs 1
 
 -- a regular sale: `@` and three spaces
 abbrev pub execute : (number order trade price volume : ℕ) → List ℕ
 execute = executeWith 64 32 32 32
 
+abbrev pub executeUnprinted : (number order trade price volume : ℕ) → List ℕ
+executeUnprinted = executeAs 0 64 32 32 32
+
 abbrev pub replace : (number order new-order side price volume : ℕ) → List ℕ
 replace number order new-order side price volume =
     fieldBytes ((2, 42) ∷ (2, 104) ∷ (4, 125) ∷ (4, index) ∷ (4, number) ∷ (8, order) ∷ (8, new-order) ∷ (4, price) ∷ (4, volume) ∷ (1, side) ∷ (1, 0) ∷ [])
+
+-- an opening cross, and the correction of one
+abbrev pub cross : (number auction price volume : ℕ) → List ℕ
+cross number auction price volume = fieldBytes ((2, 29) ∷ (2, 111) ∷ (4, 125) ∷ (4, index) ∷ (4, number) ∷ (4, auction) ∷ (4, price) ∷ (4, volume) ∷ (1, 79) ∷ [])
+
+abbrev pub correction : (number auction volume : ℕ) → List ℕ
+correction number auction volume = fieldBytes ((2, 24) ∷ (2, 113) ∷ (4, 125) ∷ (4, index) ∷ (4, number) ∷ (4, auction) ∷ (4, volume) ∷ [])
+
+abbrev pub cancel : (number trade : ℕ) → List ℕ
+cancel number trade = fieldBytes ((2, 20) ∷ (2, 112) ∷ (4, 125) ∷ (4, index) ∷ (4, number) ∷ (4, trade) ∷ [])
 
 -- at second 34,200
 abbrev pub clear : (next : ℕ) → List ℕ

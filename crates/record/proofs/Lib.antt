@@ -3,3 +3,4 @@ pub mod Recording
 pub mod Storing
 pub mod Holding
 pub mod OneOutcome
+pub mod Crosses

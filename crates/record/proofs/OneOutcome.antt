@@ -1,4 +1,4 @@
--- The promises leave one outcome: of two results that meet a promise on the same record the mark goes in both or in neither, and every symbol has the same kept trades.
+-- The promises leave one outcome: of two results that meet a promise on the same record the mark goes in both or in neither, and of every symbol the same is kept.
 use mathlib.Core.Path.{_≡_, sym, ap, _∙_}
 use Prim.Native.Nat.{ℕ}
 use Rattle.places.proofs.EightShelves.{by-place, alike-everywhere}

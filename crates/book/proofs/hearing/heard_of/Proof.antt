@@ -55,26 +55,26 @@ trading-requires-2 c κs = search needs
 enum-known-m-8 : tie.Need-enum-known-m-8
 enum-known-m-8 c = search needs
 
-other-requires-2 : tie.Need-other-requires-2
-other-requires-2 c κs = search needs
+trading-requires-3 : tie.Need-trading-requires-3
+trading-requires-3 c κs = search needs
 
 enum-known-m-9 : tie.Need-enum-known-m-9
 enum-known-m-9 c = search needs
 
-trading-requires-3 : tie.Need-trading-requires-3
-trading-requires-3 c κs = search needs
+trading-requires-4 : tie.Need-trading-requires-4
+trading-requires-4 c κs = search needs
 
 enum-known-m-10 : tie.Need-enum-known-m-10
 enum-known-m-10 c = search needs
 
-other-requires-3 : tie.Need-other-requires-3
-other-requires-3 c κs = search needs
+trading-requires-5 : tie.Need-trading-requires-5
+trading-requires-5 c κs = search needs
 
 enum-known-m-11 : tie.Need-enum-known-m-11
 enum-known-m-11 c = search needs
 
-other-requires-4 : tie.Need-other-requires-4
-other-requires-4 c κs = search needs
+other-requires-2 : tie.Need-other-requires-2
+other-requires-2 c κs = search needs
 
 enum-told : tie.Need-enum-told
 enum-told c = search needs
@@ -85,8 +85,8 @@ unnumbered-requires c κs = search needs
 enum-known-m-12 : tie.Need-enum-known-m-12
 enum-known-m-12 c = search needs
 
-other-requires-5 : tie.Need-other-requires-5
-other-requires-5 c κs = search needs
+other-requires-3 : tie.Need-other-requires-3
+other-requires-3 c κs = search needs
 
 returns : tie.Need-returns
 unfolding meant
@@ -118,19 +118,19 @@ returns-7 c = rw (c .before .before .before .m7 .given .1) (rw (c .before .deali
 
 returns-8 : tie.Need-returns-8
 unfolding meant
-returns-8 c = rw (c .before .before .m8 .given .1) (c .other2 .ensures)
+returns-8 c = rw (c .before .before .m8 .given .1) (c .trading3 .ensures)
 
 returns-9 : tie.Need-returns-9
 unfolding meant
-returns-9 c = rw (c .before .before .m9 .given .1) (c .trading3 .ensures)
+returns-9 c = rw (c .before .before .m9 .given .1) (c .trading4 .ensures)
 
 returns-10 : tie.Need-returns-10
 unfolding meant
-returns-10 c = rw (c .before .before .m10 .given .1) (c .other3 .ensures)
+returns-10 c = rw (c .before .before .m10 .given .1) (c .trading5 .ensures)
 
 returns-11 : tie.Need-returns-11
 unfolding meant
-returns-11 c = rw (c .before .before .m11 .given .1) (c .other4 .ensures)
+returns-11 c = rw (c .before .before .m11 .given .1) (c .other2 .ensures)
 
 returns-12 : tie.Need-returns-12
 unfolding meant
@@ -138,7 +138,7 @@ returns-12 c = rw (c .before .enum-told .given .1) (c .unnumbered .ensures .0)
 
 returns-13 : tie.Need-returns-13
 unfolding meant
-returns-13 c = rw (c .before .before .m12 .given .1) (c .other5 .ensures)
+returns-13 c = rw (c .before .before .m12 .given .1) (c .other3 .ensures)
 
 pub heard-of-spec : {M : Type 1} → statement M
 heard-of-spec =
@@ -161,17 +161,17 @@ heard-of-spec =
     dealing-of-requires-2
     trading-requires-2
     enum-known-m-8
-    other-requires-2
-    enum-known-m-9
     trading-requires-3
+    enum-known-m-9
+    trading-requires-4
     enum-known-m-10
-    other-requires-3
+    trading-requires-5
     enum-known-m-11
-    other-requires-4
+    other-requires-2
     enum-told
     unnumbered-requires
     enum-known-m-12
-    other-requires-5
+    other-requires-3
     returns
     returns-2
     returns-3

@@ -17,7 +17,6 @@ use Rattle.book.proofs.plans.planned.Tie as tie
 turned : (b : Book) (z : Read) (h : Heard) (k : ℕ) (c : Change) → c ≡ changeIn h → InTurn b z k (changeIn h) (dealIn h) → (a : ℕ) (l : Landing) (y : Way) → LandsBy b k c l y → PlansBy b z h k a l y
 turned b z h k c e t a l Way.Nothing p = absurd p
 turned b z h k c e t a l Way.Lands p = (t, rw (sym e) p)
-turned b z h k c e t a l Way.Deals p = (t, rw (sym e) p)
 turned b z h k c e t a l Way.Steps p = tt
 
 enum-known-t : tie.Need-enum-known-t

@@ -6,8 +6,11 @@ use Rattle.record.proofs.Record.new.Tie as tie
 no-trade-requires : tie.Need-no-trade-requires
 no-trade-requires c κs = search needs
 
+no-cross-requires : tie.Need-no-cross-requires
+no-cross-requires c κs = search needs
+
 returns : tie.Need-returns
-returns c = rw (c .no-trade .ensures)
+returns c = rw (c .before .no-trade .ensures, c .no-cross .ensures)
 
 pub new-spec : {M : Type 1} → statement M
-new-spec = tie.close (tie.spec no-trade-requires returns)
+new-spec = tie.close (tie.spec no-trade-requires no-cross-requires returns)

@@ -4,11 +4,10 @@ use mathlib.Core.Path.{_≡_, sym, _∙_}
 use Prim.Native.Nat.{_≤_, _+_, _*_}
 use native.Mathlib.Omega.{arith}
 use lib.ListN.{drop}
-use Rattle.places.specs.Places.{sumBy}
+use Rattle.places.specs.Places.{shelf, sumBy}
 use Rattle.places.proofs.Sums.{mostVolume, shelf-sum-end, shelf-sum-down}
 use Rattle.places.proofs.Living.{sum-in-order}
-use Rattle.record.specs.State.{tradesEach, noTrade, tradeNumber, tradeLive, shelfAt, keptAt}
-use Rattle.record.specs.Rules.{sharesOf}
+use Rattle.record.specs.State.{tradesEach, noTrade, tradeNumber, tradeLive, keptAt}
 use Rattle.record.specs.declared.Trade.{Trade}
 use Rattle.record.proofs.Sizes.{trades-reach}
 use borrow.Author.Needs.{needs}
@@ -16,7 +15,7 @@ use Rattle.record.proofs.Record.shares_traded.Statement.{statement}
 use Rattle.record.proofs.Record.shares_traded.Tie as tie
 
 abbrev Inv-loop : tie.InvT-loop
-Inv-loop k self base sum₀ j₀ sum j = (j ≤ tradesEach) × (sum ≡ sumBy (λ (t : Trade). cond (t .live) (t .volume) 0) (drop j (shelfAt self k))) × (sum + j * mostVolume ≤ tradesEach * mostVolume)
+Inv-loop k self base sum₀ j₀ sum j = (j ≤ tradesEach) × (sum ≡ sumBy (λ (t : Trade). cond (t .live) (t .volume) 0) (drop j (shelf tradesEach k (self .places)))) × (sum + j * mostVolume ≤ tradesEach * mostVolume)
 
 abbrev μ-loop : tie.MeasureT-loop
 μ-loop k self base sum₀ j₀ sum j = j
@@ -59,11 +58,11 @@ loop-again c =
     (omega arith, omega (arith, c .kept-volume .ensures, d), omega arith)
 
 returns : tie.Need-returns Inv-loop μ-loop
-unfolding keptAt sharesOf
+unfolding keptAt
 returns c =
     let a = c .before .before .args in
     let e : c .before .loop .j ≡ 0 = omega arith in
-    (rw e at (c .before .loop .inv .1)) ∙ sym (sum-in-order tradeNumber tradeLive (λ t. t .volume) (shelfAt (a .t1) (a .k)))
+    ((rw e at (c .before .loop .inv .1)) ∙ sym (sum-in-order tradeNumber tradeLive (λ t. t .volume) (shelf tradesEach (a .k) (a .t1 .places))), omega (arith, c .before .loop .inv .2))
 
 pub shares-traded-spec : {M : Type 1} → statement M
 shares-traded-spec =

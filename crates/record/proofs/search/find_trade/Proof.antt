@@ -2,8 +2,7 @@
 use native.Mathlib.Omega.{arith}
 use native.Mathlib.Numerals.{add-one}
 use mathlib.Core.Path.{refl}
-use Rattle.places.proofs.EightShelves.{shelf-reach}
-use Rattle.places.proofs.Ticketing.{found-first}
+use Rattle.places.proofs.Shelving.{finds}
 use Rattle.record.specs.State.{tradesEach, noTrade, tradeNumber, tradeLive}
 use borrow.Author.Needs.{needs}
 use Rattle.record.proofs.search.find_trade.Statement.{statement}
@@ -19,9 +18,7 @@ first-requires : tie.Need-first-requires
 first-requires c κs = search needs
 
 returns : tie.Need-returns
-returns c = let s = c .before .before in λ l w.
-    rw (c .first .ensures, add-one)
-    (found-first tradeNumber tradeLive noTrade refl l _ (w .ticketed) tradesEach (s .args .k) (omega arith) (shelf-reach tradesEach (s .args .k) l (w .long) (s .pre)) (s .args .number))
+returns c = let s = c .before .before in λ l w. rw (c .first .ensures, add-one) (finds tradeNumber tradeLive tradesEach l _ w (s .args .k) (s .pre) noTrade refl (omega arith) (s .args .number))
 
 pub find-trade-spec : {M : Type 1} → statement M
 find-trade-spec = tie.close (tie.spec mul-first add-first first-requires returns)

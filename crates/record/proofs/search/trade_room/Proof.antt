@@ -1,8 +1,7 @@
 -- The first ticket 0 is the first empty place.
 use native.Mathlib.Omega.{arith}
 use mathlib.Core.Path.{refl}
-use Rattle.places.proofs.EightShelves.{shelf-reach}
-use Rattle.places.proofs.Ticketing.{free-first}
+use Rattle.places.proofs.Shelving.{finds-free}
 use Rattle.record.specs.State.{tradesEach, noTrade, tradeNumber, tradeLive}
 use borrow.Author.Needs.{needs}
 use Rattle.record.proofs.search.trade_room.Statement.{statement}
@@ -15,9 +14,7 @@ first-requires : tie.Need-first-requires
 first-requires c κs = search needs
 
 returns : tie.Need-returns
-returns c = let s = c .before .before in λ l w.
-    rw (c .first .ensures)
-    (free-first tradeNumber tradeLive noTrade refl l _ (w .ticketed) tradesEach (s .args .k) (omega arith) (shelf-reach tradesEach (s .args .k) l (w .long) (s .pre)))
+returns c = let s = c .before .before in λ l w. rw (c .first .ensures) (finds-free tradeNumber tradeLive tradesEach l _ w (s .args .k) (s .pre) noTrade refl (omega arith))
 
 pub trade-room-spec : {M : Type 1} → statement M
 trade-room-spec = tie.close (tie.spec mul-first first-requires returns)
