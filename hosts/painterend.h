@@ -4,8 +4,8 @@
  * Link with target/staticlib/libhost.a, which `rt staticlib host` makes: x86-64 Linux, System V calling rules. It calls
  * nothing but memcpy and its like, allocates nothing, keeps nothing between calls and does no input or output.
  *
- * A book is the state of one market: up to eight registered symbols, each with its live orders, its kept trades and the
- * number that it expects next. A host makes one, registers symbols, passes the bytes of the feed and asks:
+ * A book is the state of one market: up to eight registered symbols, each with its live orders, its kept trades and crosses
+ * and the number that it expects next. A host makes one, registers symbols, passes the bytes of the feed and asks:
  *
  *     struct painterend_made made = painterend_new(1);
  *     struct painterend_done done = painterend_register(made.book, 7, (const uint8_t *)"ABC", 3, 4);
@@ -41,7 +41,7 @@ extern "C" {
 #endif
 
 /* How large a book is. The number stands here alone; a host compiled with another one is to be compiled anew. */
-#define PAINTEREND_BOOK_BYTES 96712
+#define PAINTEREND_BOOK_BYTES 99272
 
 #if PAINTEREND_BOOK_BYTES % 8 != 0
 #error "a book is made of whole words of 8 bytes"
@@ -114,11 +114,11 @@ struct painterend_sides {
     struct painterend_side ask;
 };
 
-/* The day's volume of a symbol. */
+/* The day's volume of a symbol. It keeps up to 128 trades and 16 crosses. */
 struct painterend_day {
     uint8_t answer;  /* 0 or 5; a stale symbol has a volume too */
-    uint64_t shares; /* the sum over the kept trades */
-    bool whole;      /* whether these are all the trades of the day */
+    uint64_t shares; /* the sum over the kept trades and the kept crosses */
+    bool whole;      /* whether these are all the trades and crosses of the day */
 };
 
 /*
@@ -129,8 +129,8 @@ struct painterend_made painterend_new(uint16_t market);
 
 /*
  * Registers a symbol under the feed's index, with a name of `length` bytes (no closing zero) and the price scale, 0 to 6.
- * The symbol starts without orders and trades and expects number 1. Keep the book that is handed back; the one passed is a
- * copy.
+ * The symbol starts without orders, trades and crosses and expects number 1. Keep the book that is handed back; the one
+ * passed is a copy.
  */
 struct painterend_done painterend_register(painterend_book book, uint32_t index, const uint8_t *name, size_t length,
                                            uint8_t scale);

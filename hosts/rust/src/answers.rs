@@ -44,7 +44,8 @@ pub struct Quote {
 pub struct Volume {
     /// 0 or 5.
     pub answer: u8,
+    /// The sum over the kept trades and the kept crosses.
     pub shares: u64,
-    /// Whether these are all the trades of the day.
+    /// Whether these are all the trades and crosses of the day.
     pub whole: bool,
 }

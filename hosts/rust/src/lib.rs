@@ -29,8 +29,8 @@ pub const AMERICAN: u16 = 9;
 pub const NATIONAL: u16 = 10;
 pub const TEXAS: u16 = 11;
 
-/// The state of one market: up to eight symbols, each with its live orders and its kept trades. A
-/// clone goes its own way.
+/// The state of one market: up to eight symbols, each with its live orders and its kept trades and
+/// crosses. A clone goes its own way.
 ///
 /// The state is large, so it stands on the heap, where a move leaves it.
 #[derive(Clone)]
@@ -66,7 +66,7 @@ impl Book {
         sys::quote(&self.state, index)
     }
 
-    /// The day's volume of a symbol.
+    /// The day's volume of a symbol: its kept trades and crosses.
     pub fn volume(&self, index: u32) -> Volume {
         sys::volume(&self.state, index)
     }
