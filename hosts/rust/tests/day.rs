@@ -284,7 +284,7 @@ fn registering_answers_11_12_and_13() {
 }
 
 #[test]
-fn the_volume_is_that_of_the_printed_trades() {
+fn the_volume_has_the_printed_trades() {
     hosted(|| {
         let mut book = abc_book();
         assert_eq!(book.volume(ABC.index), day(0, true));

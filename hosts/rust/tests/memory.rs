@@ -120,9 +120,9 @@ fn the_neighbours_of_a_lent_state_stay() {
             sys::register(&mut guarded.state, index, b"SYMBOL", 2);
             guarded.assert_intact();
         }
-        // the last symbol's places filled to the brim, and beyond
+        // the last symbol's places filled to the brim, and beyond: 256 orders, 128 trades, 16 crosses
         let last = common::Symbol { index: 7 };
-        for number in 1..=70 {
+        for number in 1..=260 {
             sys::apply(
                 &mut guarded.state,
                 &last.add(number, u64::from(number), BUY, 10, 1),
@@ -137,6 +137,18 @@ fn the_neighbours_of_a_lent_state_stay() {
         sys::run(&mut guarded.state, &trades);
         guarded.assert_intact();
         assert_eq!(sys::volume(&guarded.state, 7), day(128, false));
+        for number in 141..=160 {
+            sys::apply(&mut guarded.state, &last.cross(number, number, 10));
+            guarded.assert_intact();
+        }
+        assert_eq!(sys::volume(&guarded.state, 7), day(128 + 160, false));
+        let corrections: Vec<u8> = (161..=180)
+            .flat_map(|number| last.correct(number, number - 20, u32::MAX))
+            .collect();
+        sys::run(&mut guarded.state, &corrections);
+        guarded.assert_intact();
+        let largest = 16 * u64::from(u32::MAX);
+        assert_eq!(sys::volume(&guarded.state, 7), day(128 + largest, false));
         assert_eq!(sys::quote(&guarded.state, 7), shown(None, None));
         guarded.assert_intact();
     });

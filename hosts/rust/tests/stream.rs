@@ -3,7 +3,7 @@
 
 mod common;
 
-use common::{hosted, message, Symbol, BUY, REGULAR, SELL};
+use common::{hosted, message, with, Symbol, BUY, NANOSECONDS_TOP, REGULAR, SELL};
 use painterend::{Book, Ended, NYSE};
 
 /// As many orders as a symbol holds.
@@ -37,13 +37,14 @@ impl Chance {
     }
 }
 
-/// One symbol's part of a made day: the next number, the orders that are live, and whether something
-/// was lost, after which a clear comes soon.
+/// One symbol's part of a made day: the next number, the orders that are live, how many crosses there
+/// were, and whether something was lost, after which a clear comes soon.
 struct Maker {
     symbol: Symbol,
     next: u32,
     orders: u64,
     live: Vec<(u64, u8)>,
+    crosses: u32,
     lost: bool,
 }
 
@@ -54,6 +55,7 @@ impl Maker {
             next: 1,
             orders: 0,
             live: Vec::new(),
+            crosses: 0,
             lost: false,
         }
     }
@@ -71,6 +73,8 @@ impl Maker {
             2..=5 => symbol.trade(number, number, volume(chance), REGULAR),
             6..=7 => symbol.cancel(number, number.saturating_sub(1 + chance.small(9))),
             8..=33 if !self.live.is_empty() => self.met(number, chance),
+            34..=43 => self.cross(number, chance),
+            44..=48 => symbol.correct(number, self.any_cross(chance), volume(chance)),
             _ => self.add(number, chance),
         }
     }
@@ -95,6 +99,22 @@ impl Maker {
         self.live.push((order, side));
         self.symbol
             .add(number, order, side, price(chance), volume(chance))
+    }
+
+    /// One in twenty repeats a number.
+    fn cross(&mut self, number: u32, chance: &mut Chance) -> Vec<u8> {
+        let cross = if chance.below(20) == 0 {
+            self.any_cross(chance)
+        } else {
+            self.crosses += 1;
+            self.crosses
+        };
+        self.symbol.cross(number, cross, volume(chance))
+    }
+
+    /// A cross that there was, or the next.
+    fn any_cross(&self, chance: &mut Chance) -> u32 {
+        1 + chance.small(self.crosses + 1)
     }
 
     /// A message that meets a live order.
@@ -162,12 +182,13 @@ fn stream(seed: u64, count: usize) -> Vec<u8> {
     bytes
 }
 
-/// An unknown type, a size that its type has not, or another bit somewhere. The size is right for
-/// the stream to go on.
+/// An unknown type, a size that its type has not, nanoseconds beyond a second (of a clear: another
+/// second), or another bit somewhere. The size is right for the stream to go on.
 fn damaged(chance: &mut Chance, mut made: Vec<u8>) -> Vec<u8> {
-    match chance.below(4) {
+    match chance.below(5) {
         0 => message(chance.small(30) as u16, &[&made]),
         1 => message(100 + chance.small(5) as u16, &[&made]),
+        2 => with(made, NANOSECONDS_TOP, 0xFF),
         _ => {
             let place = 2 + chance.below(made.len() as u64 - 2) as usize;
             made[place] ^= 1 << chance.below(8);
@@ -200,10 +221,22 @@ fn assert_alike(one: &Book, other: &Book) {
     }
 }
 
+/// Whether a symbol keeps as many crosses as it can. A copy is asked: the clear leaves them there, and
+/// a cross of a number that no other has is kept where there is room.
+fn is_full_of_crosses(book: &Book, index: u32) -> bool {
+    let (symbol, mut book) = (Symbol { index }, book.clone());
+    let before = book.volume(index).shares;
+    assert_eq!(book.apply(&symbol.clear(1)).answer, 0);
+    assert_eq!(book.apply(&symbol.cross(1, u32::MAX, 1)).answer, 0);
+    book.volume(index).shares == before
+}
+
 #[test]
 fn a_run_is_one_message_after_the_other() {
     hosted(|| {
         let mut answers = [0; 11];
+        // how many records end with room for a cross, and how many without
+        let mut records = [0; 2];
         for seed in 1..=20usize {
             let bytes = stream(seed as u64, 1500);
             // from a few messages to all of them, the last of a part mostly cut
@@ -222,7 +255,11 @@ fn a_run_is_one_message_after_the_other() {
                 assert_alike(&stepped, &ran);
                 at += ended.at;
             }
+            for index in &SYMBOLS[..8] {
+                records[usize::from(is_full_of_crosses(&ran, *index))] += 1;
+            }
         }
+        assert!(records.iter().all(|&count| count >= 20), "{records:?}");
         // 1 stops; every other answer to a message comes up
         let missing: Vec<usize> = (0..answers.len())
             .filter(|&answer| answers[answer] == 0)

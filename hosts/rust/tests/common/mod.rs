@@ -36,6 +36,9 @@ pub const REGULAR: &[u8; 4] = b"@   ";
 pub const SIDE_OF_ADD: usize = 32;
 pub const TYPE: usize = 2;
 
+/// The highest byte of the nanoseconds in form N.
+pub const NANOSECONDS_TOP: usize = 7;
+
 /// The first condition of a printed trade.
 pub const CONDITIONS_OF_TRADE: usize = 29;
 
@@ -120,8 +123,23 @@ impl Symbol {
         self.numbered(110, number, &[trade, price, volume, &[1], conditions])
     }
 
+    pub fn cross(self, number: u32, cross: u32, volume: u32) -> Vec<u8> {
+        let (cross, price, volume) = (
+            &cross.to_le_bytes(),
+            &5u32.to_le_bytes(),
+            &volume.to_le_bytes(),
+        );
+        self.numbered(111, number, &[cross, price, volume, b"O"])
+    }
+
     pub fn cancel(self, number: u32, trade: u32) -> Vec<u8> {
         self.numbered(112, number, &[&trade.to_le_bytes()])
+    }
+
+    /// A cross correction.
+    pub fn correct(self, number: u32, cross: u32, volume: u32) -> Vec<u8> {
+        let (cross, volume) = (&cross.to_le_bytes(), &volume.to_le_bytes());
+        self.numbered(113, number, &[cross, volume])
     }
 
     pub fn clear(self, next: u32) -> Vec<u8> {
