@@ -20,7 +20,7 @@ use fields::{
 pub use hasher::Multiplying;
 use orders::Order;
 pub use orders::{Level, Quote, Side, LIVE_ORDERS};
-pub use record::{Trade, KEPT_TRADES};
+pub use record::{Trade, KEPT_CROSSES, KEPT_TRADES};
 use symbol::Symbol;
 
 /// A reader has room for this many symbols.
@@ -29,7 +29,7 @@ pub const SYMBOLS: usize = 8;
 /// What a message or question answers.
 pub type Answer<T = ()> = Result<T, Refused>;
 
-/// The state of all symbols; `S` hashes the numbers of orders and trades.
+/// The state of all symbols; `S` hashes the numbers of orders, trades and crosses.
 pub struct Reader<S = RandomState> {
     /// Beside the symbols, so that a search for one reads nothing else.
     indices: [u32; SYMBOLS],
@@ -75,9 +75,9 @@ impl<S: BuildHasher + Default> Reader<S> {
             104 => self.replace(sized(message)?),
             105 => self.count(form_s(sized::<73>(message)?)?),
             110 => self.trade(sized(message)?),
-            111 => self.count(form_n(sized::<29>(message)?)?),
+            111 => self.cross(sized(message)?),
             112 => self.cancel(sized(message)?),
-            113 => self.count(form_n(sized::<24>(message)?)?),
+            113 => self.correct(sized(message)?),
             114 => self.count(form_n(sized::<17>(message)?)?),
             32 => self.clear(sized(message)?),
             34 => self.count(form_s(sized::<46>(message)?)?),
@@ -90,7 +90,7 @@ impl<S: BuildHasher + Default> Reader<S> {
         self.symbols[self.place(index)?].quote()
     }
 
-    /// The sum of the kept trades, and whether the record is whole.
+    /// The sum of the kept trades and crosses, and whether the record is whole.
     pub fn volume(&self, index: u32) -> Answer<(u64, bool)> {
         let record = &self.symbols[self.place(index)?].record;
         Ok((record.volume(), record.is_whole()))
@@ -169,9 +169,27 @@ impl<S: BuildHasher + Default> Reader<S> {
         })
     }
 
+    /// Its volume may be 0.
+    fn cross(&mut self, message: &[u8; 29]) -> Answer {
+        self.numbered(form_n(message)?, |symbol| {
+            let (cross, volume) = (u32_at(message, 16), u32_at(message, 24));
+            symbol.record.keep_cross(cross, volume);
+            Ok(())
+        })
+    }
+
     fn cancel(&mut self, message: &[u8; 20]) -> Answer {
         self.numbered(form_n(message)?, |symbol| {
             symbol.record.cancel(u32_at(message, 16));
+            Ok(())
+        })
+    }
+
+    /// Its volume may be 0.
+    fn correct(&mut self, message: &[u8; 24]) -> Answer {
+        self.numbered(form_n(message)?, |symbol| {
+            let (cross, volume) = (u32_at(message, 16), u32_at(message, 20));
+            symbol.record.correct(cross, volume);
             Ok(())
         })
     }
