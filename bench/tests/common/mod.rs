@@ -1,4 +1,8 @@
 //! What the tests share.
+#![allow(dead_code)] // each test file uses its own part
+
+pub mod crosses;
+pub mod records;
 
 use second::reader::Reader;
 use second::wire::Market;
