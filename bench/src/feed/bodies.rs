@@ -100,7 +100,7 @@ impl Symbol {
 
     pub fn correction(&mut self, exchange: &mut Exchange) -> Body {
         Body::Correction {
-            cross: exchange.random.pick(&self.crosses),
+            cross: self.corrected(exchange),
             volume: exchange.volume(),
         }
     }

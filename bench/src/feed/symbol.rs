@@ -4,14 +4,15 @@ use second::wire::{Body, Message};
 
 use super::events::Event;
 use super::exchange::{Exchange, CENT};
-use crate::ordinary::{KEPT_TRADES, LIVE_ORDERS};
+use crate::ordinary::{KEPT_CROSSES, KEPT_TRADES, LIVE_ORDERS};
 
 /// One message in so many is a clear.
 const CLEAR_RATE: usize = 20_000;
 /// Half of the changes are to one of so many newest orders.
 const RECENT: usize = 8;
-/// Crosses that a correction may still name.
-const CROSSES: usize = 4;
+/// One correction in so many is of the newest cross, whether a record keeps it or not; the others are
+/// of crosses that it keeps.
+const NEWEST_CORRECTED: usize = 10;
 
 #[derive(Clone, Copy)]
 pub struct Order {
@@ -31,8 +32,9 @@ pub struct Symbol {
     pub orders: Vec<Order>,
     /// The trades that a record keeps.
     pub kept: Vec<u32>,
-    /// The newest last.
-    pub crosses: Vec<u32>,
+    /// The crosses that a record keeps: the first ones.
+    crosses: Vec<u32>,
+    newest_cross: u32,
 }
 
 impl Symbol {
@@ -45,6 +47,7 @@ impl Symbol {
             orders: Vec::new(),
             kept: Vec::new(),
             crosses: Vec::new(),
+            newest_cross: 0,
         }
     }
 
@@ -139,12 +142,21 @@ impl Symbol {
         (trade, printable)
     }
 
+    /// The number of a new cross. In time every one finds a full list.
     pub fn crossed(&mut self, exchange: &mut Exchange) -> u32 {
-        let cross = exchange.cross();
-        if self.crosses.len() == CROSSES {
-            self.crosses.remove(0);
+        self.newest_cross = exchange.cross();
+        if self.crosses.len() < KEPT_CROSSES {
+            self.crosses.push(self.newest_cross);
         }
-        self.crosses.push(cross);
-        cross
+        self.newest_cross
+    }
+
+    /// The cross that is corrected next; there is one.
+    pub fn corrected(&self, exchange: &mut Exchange) -> u32 {
+        if exchange.random.one_in(NEWEST_CORRECTED) {
+            self.newest_cross
+        } else {
+            exchange.random.pick(&self.crosses)
+        }
     }
 }
