@@ -1,14 +1,13 @@
 -- In a new state nobody is registered, no order is live and no trade is kept.
-use mathlib.Core.List.{List}
-use mathlib.Core.Option.{Option, none}
-use mathlib.Core.Path.{_≡_, refl, ap}
+use mathlib.Core.Option.{none}
+use mathlib.Core.Path.{_≡_, refl}
 use Prim.Native.Nat.{ℕ}
 use lib.ListN.{getD}
 use Rattle.markets.specs.Numbers.{marketNumber}
 use Rattle.markets.proofs.Names.{market-kept}
 use Rattle.markets.specs.declared.Market.{Market}
 use Rattle.places.specs.Places.{symbols, tabulate, firstWhere}
-use Rattle.symbols.specs.State.{Entry, placeOf, foundIn, nobody}
+use Rattle.symbols.specs.State.{placeOf, foundIn, nobody}
 use Rattle.symbols.proofs.Entries.{nobody-sound, nobody-there}
 use Rattle.orders.specs.State.{liveAt, noOrders}
 use Rattle.orders.proofs.Holding as orders-held

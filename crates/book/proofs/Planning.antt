@@ -7,21 +7,19 @@ use mathlib.Core.Path.{_≡_, refl, sym, ap, _∙_, subst}
 use Prim.Native.Nat.{ℕ, _*_, _<_, _≤_}
 use native.Mathlib.Omega.{arith}
 use borrow.Author.Tests.{lt-ltb}
-use lib.Dec.{ltb}
 use lib.ListN.{getD}
 use Rattle.feed.specs.Reader.{Act, clearing, numbered}
 use Rattle.wire.specs.Reading.{Read}
 use Rattle.places.specs.Places.{symbols, among, shelf, spotIn}
 use Rattle.places.specs.Homes.{freeIn}
-use Rattle.places.specs.Tickets.{ticket}
 use Rattle.symbols.specs.State.{numbers, Entry, nowhere, placeAt, entrySeen, entries, itself, placeOf}
 use Rattle.symbols.specs.Turns.{countedIf, restanding, turnAt}
 use Rattle.symbols.specs.declared.Place.{Place}
 use Rattle.symbols.proofs.Entries.{entry-at, seat-is}
 use Rattle.symbols.proofs.Altering.{stands}
-use Rattle.orders.specs.State.{ordersEach, noOrder, liveAt, shelfAt}
+use Rattle.orders.specs.State.{ordersEach, noOrder, liveAt}
 use Rattle.orders.specs.Rules.{applyTo}
-use Rattle.orders.specs.Deciding.{Beside, beside, besides, liveOrders, Found, Lies, Searchable, Decides, Mirrors, LandsAs, laidIn}
+use Rattle.orders.specs.Deciding.{Beside, beside, besides, liveOrders, Found, Lies, Searchable, Decides, Mirrors, LandsAs}
 use Rattle.orders.specs.declared.Order.{Order}
 use Rattle.orders.specs.declared.Change.{Change}
 use Rattle.orders.specs.declared.Fit as code

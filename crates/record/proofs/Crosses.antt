@@ -1,13 +1,13 @@
 -- What a cross and its correction make of the shares kept, and what they leave where they are left out: request M-102. The room for trades and for crosses, with the numbers written out.
-use mathlib.Core.Bool.{Bool, true, false}
+use mathlib.Core.Bool.{true, false}
 use mathlib.Core.List.{List}
 use mathlib.Core.Option.{Option, none, some}
-use mathlib.Core.Path.{_≡_, refl, sym, ap, _∙_}
+use mathlib.Core.Path.{_≡_, refl}
 use Prim.Native.Nat.{ℕ, _+_, _<_, _≤_}
 use native.Mathlib.Omega.{arith}
 use borrow.Author.Tests.{lt-ltb, le-ltb}
 use lib.ListN.{length}
-use Rattle.places.specs.Places.{insert, remove, look, sumBy}
+use Rattle.places.specs.Places.{insert, remove, look}
 use Rattle.places.proofs.Sorted.{sum-insert, sum-remove}
 use Rattle.record.specs.State.{crossesEach, tradeNumber, crossNumber, Kept}
 use Rattle.record.specs.Rules.{after, tradeOf, dealTo, crossedAs, crossOf, crossed, crossTo, keptAfter, lostBy, sharesOf}

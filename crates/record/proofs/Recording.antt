@@ -8,7 +8,7 @@ use borrow.Author.Tests.{lt-ltb}
 use Rattle.places.specs.Places.{insert, remove, look, Lands}
 use Rattle.places.proofs.Landing.{lands-nowhere, missing, found, crowded, roomy, lands-new, lands-out, lands-changed}
 use Rattle.record.specs.State.{tradesEach, crossesEach, noTrade, noCross, tradeNumber, tradeLive, crossNumber, crossLive}
-use Rattle.record.specs.Rules.{dealTo, after, tradeOf, recorded, crossTo, crossedAs, crossOf, crossed}
+use Rattle.record.specs.Rules.{dealTo, after, tradeOf, recorded, crossTo, crossedAs, crossOf}
 use Rattle.record.specs.Deciding.{TradeShelf, CrossShelf, TradeAt, TradeRoom, CrossAt, CrossRoom, kept, Decides, unrecorded, withTradeAt, withCrossAt, Spares}
 use Rattle.record.specs.declared.Trade.{Trade}
 use Rattle.record.specs.declared.Cross.{Cross}
