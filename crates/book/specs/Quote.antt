@@ -35,8 +35,9 @@ volumeIn (some s) = record { answer = 0; shares = sharesOf (s .kept); whole = s 
 unfoldable pub volumeOf : ℕ → View → Volume
 volumeOf index v = volumeIn (symbolIn index v)
 
--- of a volume: these shares are in the place of those, and the mark is as it was
+-- of a volume: these shares are in the place of those, and answer and mark are as they were
 pub record Replaces (old new : ℕ) (before after : Volume) : Type 0 where
+  pub answer : after .answer ≡ before .answer
   pub shares : after .shares + old ≡ before .shares + new
   pub whole : after .whole ≡ before .whole
 

@@ -14,6 +14,7 @@ use Rattle.orders.specs.State.{liveAt, noOrders}
 use Rattle.orders.specs.declared.Order.{Order}
 use Rattle.record.specs.State as record-room
 use Rattle.record.specs.State.{Kept, nothingKept, keptAt, noTrades}
+use Rattle.record.specs.declared.Cross.{Cross}
 use Rattle.book.specs.declared.Book.{Book}
 
 -- ---- what is kept of a symbol: its entry, its live orders in the order of their numbers, its kept trades and crosses likewise
@@ -68,6 +69,14 @@ liveOf (some s) = s .orders
 
 abbrev pub liveIn : ℕ → View → List Order
 liveIn index v = liveOf (symbolIn index v)
+
+-- and its kept crosses
+abbrev pub crossesOf : Option Symbol → List Cross
+crossesOf none = []
+crossesOf (some s) = s .kept .crosses
+
+abbrev pub crossesIn : ℕ → View → List Cross
+crossesIn index v = crossesOf (symbolIn index v)
 
 -- ---- what holds of every state: each room is sound, and a place with no symbol holds nothing
 pub record Wf (b : Book) : Type 0 where

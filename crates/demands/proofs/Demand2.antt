@@ -12,7 +12,7 @@ use Rattle.wire.specs.declared.Head.{Head}
 use Rattle.wire.specs.declared.Message.{Message}
 use Rattle.markets.specs.declared.Market.{Market}
 use Rattle.wire.proofs.RoundTrip.{read-what-was-written, write-what-was-read}
-use Rattle.book.specs.State.{Symbol, View, Next, view, symbolIn, liveIn}
+use Rattle.book.specs.State.{Symbol, View, Next, view, symbolIn, liveIn, crossesIn}
 use Rattle.feed.specs.Reader.{indexOf}
 use Rattle.book.specs.Promises.{leftOut}
 use Rattle.book.specs.Quote.{quoted, quoteOf, volumeOf, Replaces, sideOf}
@@ -26,10 +26,11 @@ use Rattle.book.specs.declared.walk.Moved.{Moved}
 use Rattle.book.specs.declared.walk.Ran.{Ran}
 use Rattle.places.specs.Places.{look}
 use Rattle.record.specs.State.{crossesEach, crossNumber}
+use Rattle.record.specs.Rules.{crossOf}
 use Rattle.record.specs.declared.Cross.{Cross}
 use Rattle.record.proofs.Crosses.{repeated-left-out, crowded-left-out, unknown-left-out}
 use Rattle.book.proofs.Auctions as auctions
-use Rattle.book.proofs.Auctions.{cross-raises, correction-replaces}
+use Rattle.book.proofs.Auctions.{cross-raises, cross-found, correction-replaces, correction-found}
 use Rattle.book.proofs.Holding.{all-live, orders-within, trades-within, crosses-within, one-live, one-kept, one-cross}
 use Rattle.book.proofs.Isolation.{step-others, apply-others}
 use Rattle.book.proofs.OneMarket.{step-market}
@@ -106,20 +107,26 @@ module _ {b : Book} (p : Reached b) where
   cross-adds : {s : List ℕ} {at : ℕ} {m : List ℕ} {r : Moved} → Moves b s at r
       → (head : Head) (cross price volume class : ℕ) (x : Symbol) → StandsAt s at m → readOf (view b .market) m .outcome ≡ done (Message.Cross head cross price volume class) → r .answer ≡ 0
       → symbolIn (head .index) (view b) ≡ some x → look crossNumber cross (x .kept .crosses) ≡ none → length (x .kept .crosses) < crossesEach
-      → volumeOf (head .index) (view (r .book)) ≡ record { answer = 0; shares = volumeOf (head .index) (view b) .shares + volume; whole = volumeOf (head .index) (view b) .whole }
+      → (volumeOf (head .index) (view (r .book)) ≡ record { answer = 0; shares = volumeOf (head .index) (view b) .shares + volume; whole = volumeOf (head .index) (view b) .whole })
+      × (look crossNumber cross (crossesIn (head .index) (view (r .book))) ≡ some (crossOf cross volume))
   unfolding meant
   cross-adds m head cross price volume class x t e z there new room =
-      let a = act-done m (Message.Cross head cross price volume class) t e z in
-      ap (volumeOf (head .index)) (a .next-view) ∙ cross-raises (view b) (head .index) (head .number) x there cross volume (a .answer) new room
+      let a = act-done m (Message.Cross head cross price volume class) t e z in (
+        ap (volumeOf (head .index)) (a .next-view) ∙ cross-raises (view b) (head .index) (head .number) x there cross volume (a .answer) new room,
+        ap (λ (v : View). look crossNumber cross (crossesIn (head .index) v)) (a .next-view) ∙ cross-found (view b) (head .index) (head .number) x there cross volume (a .answer) new room,
+      )
 
   correction-takes-its-place : {s : List ℕ} {at : ℕ} {m : List ℕ} {r : Moved} → Moves b s at r
       → (head : Head) (cross volume : ℕ) (x : Symbol) (y : Cross) → StandsAt s at m → readOf (view b .market) m .outcome ≡ done (Message.CrossCorrection head cross volume) → r .answer ≡ 0
       → symbolIn (head .index) (view b) ≡ some x → look crossNumber cross (x .kept .crosses) ≡ some y
       → Replaces (y .volume) volume (volumeOf (head .index) (view b)) (volumeOf (head .index) (view (r .book)))
+      × (look crossNumber cross (crossesIn (head .index) (view (r .book))) ≡ some (crossOf cross volume))
   unfolding meant
   correction-takes-its-place m head cross volume x y t e z there found =
-      let a = act-done m (Message.CrossCorrection head cross volume) t e z in
-      subst (λ (v : View). Replaces (y .volume) volume (volumeOf (head .index) (view b)) (volumeOf (head .index) v)) (sym (a .next-view)) (correction-replaces (view b) (head .index) (head .number) x there cross volume y (a .answer) found)
+      let a = act-done m (Message.CrossCorrection head cross volume) t e z in (
+        subst (λ (v : View). Replaces (y .volume) volume (volumeOf (head .index) (view b)) (volumeOf (head .index) v)) (sym (a .next-view)) (correction-replaces (view b) (head .index) (head .number) x there cross volume y (a .answer) found),
+        ap (λ (v : View). look crossNumber cross (crossesIn (head .index) v)) (a .next-view) ∙ correction-found (view b) (head .index) (head .number) x there cross volume y (a .answer) found,
+      )
 
   leaves-out : {s : List ℕ} {at : ℕ} {m : List ℕ} {r : Moved} → Moves b s at r → (message : Message) (x : Symbol) → StandsAt s at m → readOf (view b .market) m .outcome ≡ done message → r .answer ≡ 0
       → symbolIn (indexOf (meant message)) (view b) ≡ some x → LeavesOut x message → symbolIn (indexOf (meant message)) (view (r .book)) ≡ some (leftOut x)

@@ -20,8 +20,9 @@ use Rattle.feed.specs.Reader.{indexOf}
 use Rattle.places.specs.Places.{count, look, sumBy}
 use Rattle.orders.specs.State.{ordersEach, orderNumber}
 use Rattle.record.specs.State.{tradesEach, crossesEach, tradeNumber, crossNumber}
+use Rattle.record.specs.Rules.{crossOf}
 use Rattle.record.specs.declared.Cross.{Cross}
-use Rattle.book.specs.State.{Symbol, view, symbolIn, liveIn}
+use Rattle.book.specs.State.{Symbol, view, symbolIn, liveIn, crossesIn}
 use Rattle.book.specs.Promises.{leftOut, Obeys, Steps}
 use Rattle.book.specs.Registering.{registerOf}
 use Rattle.orders.specs.Levels.{counts, sharesAt, NoBetter, Attained, TakesOff}
@@ -73,14 +74,16 @@ pub record OfMessage (b : Book) (s : List ℕ) (at : ℕ) (r : Moved) : Type 0 w
   -- an execution that is done takes its volume off at the price and side of its order, which was live, whatever the price of the trade; the sum at every other stays
   pub execution : {m : List ℕ} (head : Head) (order trade price volume printable : ℕ) → StandsAt s at m → readOf (view b .market) m .outcome ≡ done (Message.Execute head order trade price volume printable) → r .answer ≡ 0
       → TakesOff order volume (liveIn (head .index) (view b)) (liveIn (head .index) (view (r .book)))
-  -- a cross that is done counts: where its number isn't kept and there is room, the day's volume rises by its volume, and the mark is as it was
+  -- a cross that is done counts: where its number isn't kept and there is room, the day's volume rises by its volume, the mark is as it was, and the cross is then kept
   pub cross-counts : {m : List ℕ} (head : Head) (cross price volume class : ℕ) (x : Symbol) → StandsAt s at m → readOf (view b .market) m .outcome ≡ done (Message.Cross head cross price volume class) → r .answer ≡ 0
       → symbolIn (head .index) (view b) ≡ some x → look crossNumber cross (x .kept .crosses) ≡ none → length (x .kept .crosses) < crossesEach
-      → volumeOf (head .index) (view (r .book)) ≡ record { answer = 0; shares = volumeOf (head .index) (view b) .shares + volume; whole = volumeOf (head .index) (view b) .whole }
-  -- a correction that is done counts: in the day's volume its volume is in the place of the one that its cross had, and the mark is as it was
+      → (volumeOf (head .index) (view (r .book)) ≡ record { answer = 0; shares = volumeOf (head .index) (view b) .shares + volume; whole = volumeOf (head .index) (view b) .whole })
+      × (look crossNumber cross (crossesIn (head .index) (view (r .book))) ≡ some (crossOf cross volume))
+  -- a correction that is done counts: in the day's volume its volume is in the place of the one that its cross had, the mark is as it was, and the cross is then kept with it
   pub correction-counts : {m : List ℕ} (head : Head) (cross volume : ℕ) (x : Symbol) (y : Cross) → StandsAt s at m → readOf (view b .market) m .outcome ≡ done (Message.CrossCorrection head cross volume) → r .answer ≡ 0
       → symbolIn (head .index) (view b) ≡ some x → look crossNumber cross (x .kept .crosses) ≡ some y
       → Replaces (y .volume) volume (volumeOf (head .index) (view b)) (volumeOf (head .index) (view (r .book)))
+      × (look crossNumber cross (crossesIn (head .index) (view (r .book))) ≡ some (crossOf cross volume))
   -- one that is done and left out uses its number and takes the mark: nothing else of its symbol changes
   pub left-out : {m : List ℕ} (message : Message) (x : Symbol) → StandsAt s at m → readOf (view b .market) m .outcome ≡ done message → r .answer ≡ 0
       → symbolIn (indexOf (meant message)) (view b) ≡ some x → LeavesOut x message → symbolIn (indexOf (meant message)) (view (r .book)) ≡ some (leftOut x)

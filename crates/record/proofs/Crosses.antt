@@ -8,7 +8,7 @@ use native.Mathlib.Omega.{arith}
 use borrow.Author.Tests.{lt-ltb, le-ltb}
 use lib.ListN.{length}
 use Rattle.places.specs.Places.{insert, remove, look}
-use Rattle.places.proofs.Sorted.{sum-insert, sum-remove}
+use Rattle.places.proofs.Sorted.{look-insert, sum-insert, sum-remove}
 use Rattle.record.specs.State.{crossesEach, tradeNumber, crossNumber, Kept}
 use Rattle.record.specs.Rules.{after, tradeOf, dealTo, crossedAs, crossOf, crossed, crossTo, keptAfter, lostBy, sharesOf}
 use Rattle.record.specs.declared.Trade.{Trade}
@@ -21,21 +21,24 @@ pub record LeftOut (k : Kept) (d : Deal) : Type 0 where
   pub kept : keptAfter k d ≡ k
 
 module _ (k : Kept) (n v : ℕ) where
-  -- ---- it counts: the mark stays, and the shares move by its volume
+  -- ---- it counts: the mark stays, the shares move by its volume, and it is then found with that
   pub record CrossCounts : Type 0 where
     pub lost : lostBy k (Deal.Crosses n v) ≡ false
     pub shares : sharesOf (keptAfter k (Deal.Crosses n v)) ≡ sharesOf k + v
+    pub found : look crossNumber n (keptAfter k (Deal.Crosses n v) .crosses) ≡ some (crossOf n v)
 
   pub cross-counts : look crossNumber n (k .crosses) ≡ none → length (k .crosses) < crossesEach → CrossCounts
   unfolding dealTo sharesOf
   cross-counts e h = record {
     lost = rw (e, lt-ltb _ _ h);
     shares = rw (e, lt-ltb _ _ h, sum-insert crossNumber (λ (c : Cross). c .volume) (crossOf n v) (k .crosses)) (omega arith);
+    found = rw (e, lt-ltb _ _ h) (look-insert crossNumber (crossOf n v) (k .crosses));
   }
 
   pub record CorrectionCounts (y : Cross) : Type 0 where
     pub lost : lostBy k (Deal.Corrects n v) ≡ false
     pub shares : sharesOf (keptAfter k (Deal.Corrects n v)) + y .volume ≡ sharesOf k + v
+    pub found : look crossNumber n (keptAfter k (Deal.Corrects n v) .crosses) ≡ some (crossOf n v)
 
   pub correction-counts : (y : Cross) → look crossNumber n (k .crosses) ≡ some y → CorrectionCounts y
   unfolding dealTo sharesOf
@@ -44,6 +47,7 @@ module _ (k : Kept) (n v : ℕ) where
       record {
         lost = rw e;
         shares = rw (e, sum-insert crossNumber (λ (c : Cross). c .volume) (crossOf n v) (remove crossNumber n (k .crosses))) (omega (arith, rest));
+        found = rw e (look-insert crossNumber (crossOf n v) (remove crossNumber n (k .crosses)));
       }
 
   -- ---- it is left out
