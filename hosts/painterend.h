@@ -118,7 +118,7 @@ struct painterend_sides {
 struct painterend_day {
     uint8_t answer;  /* 0 or 5; a stale symbol has a volume too */
     uint64_t shares; /* the sum over the kept trades and the kept crosses */
-    bool whole;      /* whether these are all the trades and crosses of the day */
+    bool whole;      /* whether these are all of the day, as far as losses show */
 };
 
 /*

@@ -46,6 +46,6 @@ pub struct Volume {
     pub answer: u8,
     /// The sum over the kept trades and the kept crosses.
     pub shares: u64,
-    /// Whether these are all the trades and crosses of the day.
+    /// Whether these are all the trades and crosses of the day, as far as losses show.
     pub whole: bool,
 }

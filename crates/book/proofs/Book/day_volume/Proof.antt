@@ -1,4 +1,4 @@
--- The sum over the kept trades of the symbol at the place that was found.
+-- What is kept of the symbol at the place that was found, summed.
 use Rattle.book.proofs.Asking.{volume-missing, volume-at}
 use borrow.Author.Needs.{needs}
 use Rattle.book.proofs.Book.day_volume.Statement.{statement}
