@@ -155,7 +155,7 @@ module _ (b : Book) (z : Read) (h : Heard) (k : ℕ) where
     stores-step r slot t n corner x o f d e decides spots = lands-with (storedAt (b .trades) slot t n corner x o)
         (λ g w. rw f (stored-obeys (b .trades) k g (w .trades) r slot t n corner x o spots (dealIn h) (rw e at (decides _ _ g (w .trades .trades) (w .trades .crosses)))))
 
--- ---- whether a deal brings anything to the record
+-- ---- a deal that brings nothing to the record
 pub brings-nothing : (d : Deal) → bringsNothing d ≡ true → d ≡ Deal.Nothing
 brings-nothing Deal.Nothing e = refl
 brings-nothing (Deal.Records n p v) e = absurd (false≢true e)

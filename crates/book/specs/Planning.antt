@@ -147,7 +147,7 @@ PlansBy b x h k a l Way.Steps = Unit {0}
 abbrev pub Plans : Book → Read → Heard → ℕ → Plan → Type 0
 Plans b x h k r = PlansBy b x h k (r .answer) (r .landing) (r .way)
 
--- whether a deal brings anything to the record
+-- whether a deal brings nothing to the record
 abbrev pub bringsNothing : Deal → Bool
 bringsNothing Deal.Nothing = true
 bringsNothing (Deal.Records n p v) = false

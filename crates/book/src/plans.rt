@@ -57,7 +57,7 @@ pub(crate) fn planned<'a>(
     }
 }
 
-// Whether a deal brings anything to the record.
+// Whether a deal brings nothing to the record.
 pub(crate) fn brings_nothing(deal: Deal) -> bool
     ensures { λ r. ⌜ r ≡ bringsNothing deal ⌝ }
 {
