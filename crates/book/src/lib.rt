@@ -1,6 +1,8 @@
 // The state of a market's eight symbols, with their orders and their trade records, and what a message does to it.
 //
 // A state is taken by value and the next one is handed back. Its fields are private: nobody outside puts one together by hand.
+#![tactic(auto)]
+
 mod acts;
 mod depth;
 mod effects;

@@ -1,4 +1,6 @@
 // The text of a line: separator, number, price, time and text byte, each once for every line.
+#![tactic(auto)]
+
 ghost use Rattle.std.specs.Prelude.{◌≡◌, [], ◌∷◌, ◌/◌, ◌^◌, length, take};
 ghost use Rattle.columns.specs.Text.{comma, fixed, digits, text_byte};
 ghost use Rattle.columns.specs.Columns.{next, number, price, clock, bytes, text};

@@ -1,1 +1,3 @@
 // A day in symbol ABC: the lettered cases of document 01, as rows under one claim. No code stands here.
+
+#![tactic(auto)]

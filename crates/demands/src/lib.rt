@@ -16,3 +16,5 @@
 // | demand 3 of the depth: by any calls; from bytes; idle and stale readers do not meet it | specs/Depth | demand-3-of-depth-holds, demand-3-of-depth-from-bytes, no-stale-depths, no-idle-depths |
 // | that a message refused with 1 to 5 acts as a lost one | proofs/Refused | refused-changes-nothing, refused-acts-as-lost |
 // | that each contract leaves one outcome | specs/OneOutcome | one-outcome |
+
+#![tactic(auto)]

@@ -1,4 +1,6 @@
 // What hosts in C and Rust call. A host lends its book and has it changed in place, with the promises of the calls by value; the other calls take the book by value.
+#![tactic(auto)]
+
 mod asked;
 mod lent;
 mod made;

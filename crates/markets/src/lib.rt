@@ -1,4 +1,6 @@
 // The five markets that send this feed: their numbers, and the conditions that each of them lists.
+#![tactic(auto)]
+
 mod conditions;
 
 ghost use Rattle.std.specs.Prelude.{◌≡◌};

@@ -1,6 +1,8 @@
 // The live orders of eight symbols, 256 places each: what a change does to them, the best of each side, and the ten best prices.
 //
 // Nothing here knows of messages, of a message's number or of trades. The orders are taken by value and the next ones are handed back; the run of a book lends single arrays.
+#![tactic(auto)]
+
 mod changes;
 mod landing;
 mod levels;

@@ -1,6 +1,8 @@
 // The page: the TAQ lines of an add (100) and a cross (111), and what the program prints, into a lent buffer.
 //
 // Every promise is an equation with a definition of specs/, where document 01's rules stand. No public function asks anything of its caller.
+#![tactic(auto)]
+
 mod laying;
 mod levels;
 mod lines;

@@ -1,6 +1,8 @@
 // The bureau's program: it reads a file of messages, part by part, and prints lines, refusals and the last quote, and where they are asked for the last levels.
 //
 // What is printed stands in `page`, how leftovers open the next part in `parts`. Here are the file and the order of things: fill, lay, write, carry.
+#![tactic(auto)]
+
 mod levels;
 mod options;
 mod output;

@@ -1,4 +1,6 @@
 // Reading a file in parts: what a part leaves over comes first in the next.
+#![tactic(auto)]
+
 ghost use Rattle.std.specs.Prelude.{◌≡◌};
 ghost use Rattle.parts.specs.Carry.{carried, carry_of};
 

@@ -1,4 +1,6 @@
 // The test bench: makes the library calls that a file lists and prints a line for each. docs/PROBE.md has the form of the file and of the lines.
+#![tactic(auto)]
+
 mod calls;
 mod given;
 mod shown;

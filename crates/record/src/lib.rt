@@ -1,6 +1,8 @@
 // The record of eight symbols, 128 places each for trades and 16 for crosses: what a deal does to it, and the shares that it sums to.
 //
 // Nothing here knows of messages, of a message's number or of orders. The record is taken by value and the next one is handed back; the run of a book lends single arrays.
+#![tactic(auto)]
+
 mod deals;
 mod rules;
 mod search;

@@ -1,6 +1,8 @@
 // The eight places of registration: who is registered, which number each symbol expects, whether it is stale, and whether its record is whole.
 //
 // Nothing here knows of messages, of orders or of trades. The symbols are taken by value and the next ones are handed back; the run of a book lends single arrays.
+#![tactic(auto)]
+
 mod names;
 mod registering;
 mod turns;

@@ -1,5 +1,7 @@
 // Runs the message layer on a file of calls laid end to end, and prints a line for each. docs/VECTORS.md has the form of the file and of the lines, and how
 // the stored output was worked out.
+#![tactic(auto)]
+
 mod given;
 mod shown;
 

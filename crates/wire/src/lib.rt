@@ -1,6 +1,8 @@
 // The message layer: the 13 message types of document 01, read from a lent slice and written into a lent buffer.
 //
 // Every promise is an equation with a definition of specs/, where document 01's rules stand. No public function asks anything of its caller.
+#![tactic(auto)]
+
 mod bytes;
 mod extent;
 mod fields;
