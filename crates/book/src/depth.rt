@@ -9,7 +9,7 @@ use places::SYMBOLS;
 
 // Ten rows a side, best first. Those that are not needed come last, and are marked.
 #[repr(C)]
-#[derive(Drop)]
+#[derive(Clone, Copy)]
 pub struct Depth {
     pub answer: u8,
     pub bids: [LevelRow; LEVELS],

@@ -16,7 +16,7 @@ use wire::{Answer, BUY, Decoded, Head, Message};
 
 // What reading answered: refused, with its answer; a numbered message, with what it does to the orders and what it brings to the record; or a clear. It is flat, so that a run hands it
 // on in registers.
-#[derive(Drop)]
+#[derive(Clone, Copy)]
 pub(crate) struct Heard {
     pub(crate) tone: Tone,
     pub(crate) answer: u8,
@@ -29,14 +29,14 @@ pub(crate) struct Heard {
     pub(crate) volume: u32,
 }
 
-#[derive(Drop)]
+#[derive(Clone, Copy)]
 pub(crate) enum Tone {
     Refused,
     Numbered,
     Clear,
 }
 
-#[derive(Drop)]
+#[derive(Clone, Copy)]
 pub(crate) enum Dealing {
     Nothing,
     Records,
@@ -46,7 +46,7 @@ pub(crate) enum Dealing {
 }
 
 // How it stands with it at its symbol: refused; in its turn; or a step's.
-#[derive(Drop)]
+#[derive(Clone, Copy)]
 pub(crate) enum Turn {
     Refused(u8),
     Due,

@@ -27,7 +27,7 @@ pub use walk::{Moved, Noted, Ran};
 
 // The state. The market is kept as its Market ID, since no enum goes out to a host.
 #[repr(C)]
-#[derive(Drop)]
+#[derive(Clone, Copy)]
 pub struct Book {
     symbols: Symbols,
     orders: Orders,
@@ -37,7 +37,7 @@ pub struct Book {
 
 // The next state, and document 01's number.
 #[repr(C)]
-#[derive(Drop)]
+#[derive(Clone, Copy)]
 pub struct Done {
     pub book: Book,
     pub answer: u8,

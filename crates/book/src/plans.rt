@@ -13,14 +13,14 @@ use orders::{Change, Edit, Fit, Landing, ORDERS, Order, PLACES, Verdict, judged,
 use record::Deal;
 
 // The ways. A plan that lands says where the orders change; then what the message brings goes to the record, and its number is counted. One that does nothing has its answer.
-#[derive(Drop)]
+#[derive(Clone, Copy)]
 pub(crate) enum Way {
     Nothing,
     Lands,
     Steps,
 }
 
-#[derive(Drop)]
+#[derive(Clone, Copy)]
 pub(crate) struct Plan {
     pub(crate) way: Way,
     pub(crate) answer: u8,

@@ -11,7 +11,7 @@ use crate::{Book, Done};
 use wire::{Answer, Decoded, Message};
 
 // The next state, document 01's number, and beside a 4 the offset of the first bad field.
-#[derive(Drop)]
+#[derive(Clone, Copy)]
 pub(crate) struct Stepped {
     pub(crate) book: Book,
     pub(crate) answer: u8,

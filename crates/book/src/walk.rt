@@ -14,7 +14,7 @@ use wire::Reach;
 
 // One message of a stream: the next state, where the next message starts, the answer, and whether a run stops here. Beside a 4 stands the offset in the message of
 // its first bad field, beside any other answer 0.
-#[derive(Drop)]
+#[derive(Clone, Copy)]
 pub struct Moved {
     pub book: Book,
     pub at: usize,
@@ -24,7 +24,7 @@ pub struct Moved {
 }
 
 // A run: the last state, the position that it reached, and the answer that stopped it.
-#[derive(Drop)]
+#[derive(Clone, Copy)]
 pub struct Ran {
     pub book: Book,
     pub at: usize,
@@ -32,7 +32,7 @@ pub struct Ran {
 }
 
 // A run that notes answers: besides, how many messages it passed. The answer is 15 where it passed as many as it may and there is one more.
-#[derive(Drop)]
+#[derive(Clone, Copy)]
 pub struct Noted {
     pub book: Book,
     pub at: usize,

@@ -10,7 +10,7 @@ ghost use Rattle.columns.specs.Held.{held, Shows, Adds};
 pub const ROOM: usize = 640;
 
 // A line under construction: what it holds is its first len bytes.
-#[derive(Drop)]
+#[derive(Clone, Copy)]
 pub struct Line {
     bytes: [u8; ROOM],
     len: usize,

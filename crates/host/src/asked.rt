@@ -10,7 +10,7 @@ use orders::Level;
 
 // One side of a quote: whether there is one, its price and its size.
 #[repr(C)]
-#[derive(Drop)]
+#[derive(Clone, Copy)]
 pub struct Side {
     pub some: bool,
     pub price: u32,
@@ -18,7 +18,7 @@ pub struct Side {
 }
 
 #[repr(C)]
-#[derive(Drop)]
+#[derive(Clone, Copy)]
 pub struct Sides {
     pub answer: u8,
     pub bid: Side,

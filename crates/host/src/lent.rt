@@ -5,7 +5,7 @@ use book::Book;
 
 // One message: where the next one starts, the answer, beside a 4 the offset of the first bad field, and whether a run stops here.
 #[repr(C)]
-#[derive(Drop)]
+#[derive(Clone, Copy)]
 pub struct Passed {
     pub at: usize,
     pub answer: u8,
@@ -15,20 +15,20 @@ pub struct Passed {
 
 // A run: the position that it reached, and the answer that stopped it.
 #[repr(C)]
-#[derive(Drop)]
+#[derive(Clone, Copy)]
 pub struct Ended {
     pub at: usize,
     pub answer: u8,
 }
 
 // The next book, apart from what is told of the message, and of the run.
-#[derive(Drop)]
+#[derive(Clone, Copy)]
 struct Pushed {
     book: Book,
     passed: Passed,
 }
 
-#[derive(Drop)]
+#[derive(Clone, Copy)]
 struct Led {
     book: Book,
     ended: Ended,

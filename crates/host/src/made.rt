@@ -10,7 +10,7 @@ use markets::{Market, Named};
 
 // A new book, and whether the number that was given names a market.
 #[repr(C)]
-#[derive(Drop)]
+#[derive(Clone, Copy)]
 pub struct Made {
     pub book: Book,
     pub known: bool,

@@ -8,7 +8,7 @@ ghost use Rattle.markets.specs.Numbers.{market_number, named_of, market_of};
 
 pub use conditions::condition_listed;
 
-#[derive(Drop)]
+#[derive(Clone, Copy)]
 pub enum Market {
     Nyse,
     Arca,
@@ -18,7 +18,7 @@ pub enum Market {
 }
 
 // What a number names.
-#[derive(Drop)]
+#[derive(Clone, Copy)]
 pub enum Named {
     Market(Market),
     Unknown,

@@ -6,7 +6,7 @@ use crate::{EACH, ORDERS, Order, no_order};
 use places::spot;
 
 // The verdict's own places go with it, for what searches read.
-#[derive(Drop)]
+#[derive(Clone, Copy)]
 pub struct Landing {
     pub emptied: usize,
     pub filled: usize,

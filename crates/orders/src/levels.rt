@@ -8,14 +8,14 @@ use crate::{ORDERS, Order, Orders};
 use places::SYMBOLS;
 
 // One side of a quote: nothing, or the best price with the exact sum of the shares at it.
-#[derive(Drop)]
+#[derive(Clone, Copy)]
 pub enum Level {
     Empty,
     Best { price: u32, size: u64 },
 }
 
 // The best price met so far, if any.
-#[derive(Drop)]
+#[derive(Clone, Copy)]
 struct Best {
     some: bool,
     price: u32,

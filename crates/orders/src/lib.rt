@@ -35,7 +35,7 @@ pub const PLACES: usize = SYMBOLS * ORDERS;
 
 // A place for an order: empty, or a live one.
 #[repr(C)]
-#[derive(Drop)]
+#[derive(Clone, Copy)]
 pub struct Order {
     number: u64,
     price: u32,
@@ -46,7 +46,7 @@ pub struct Order {
 
 // The orders, and what searches read of them: their numbers, whether each is live, and, for each home of each symbol, how many places from it on may hold an order of it.
 #[repr(C)]
-#[derive(Drop)]
+#[derive(Clone, Copy)]
 pub struct Orders {
     pub places: [Order; PLACES],
     pub numbers: [u64; PLACES],
@@ -55,7 +55,7 @@ pub struct Orders {
 }
 
 // What is done to a symbol's orders. An order comes as its number, whether it buys, its price and its volume.
-#[derive(Drop)]
+#[derive(Clone, Copy)]
 pub enum Change {
     Nothing,
     Add(u64, bool, u32, u32),
@@ -68,7 +68,7 @@ pub enum Change {
 }
 
 // The same, flat, as calls pass it on: the order that it is about, the old one of a replace, and the new number of a replace. What a kind lacks is 0.
-#[derive(Drop)]
+#[derive(Clone, Copy)]
 pub struct Edit {
     pub kind: Kind,
     pub order: u64,
@@ -78,7 +78,7 @@ pub struct Edit {
     pub volume: u32,
 }
 
-#[derive(Drop)]
+#[derive(Clone, Copy)]
 pub enum Kind {
     Nothing,
     Add,
@@ -89,7 +89,7 @@ pub enum Kind {
 }
 
 // Whether it fits the orders, and whether there is room.
-#[derive(Drop)]
+#[derive(Clone, Copy)]
 pub enum Fit {
     Fits,
     Misfit,
@@ -97,7 +97,7 @@ pub enum Fit {
 }
 
 // The next orders: those that came in, where it doesn't fit.
-#[derive(Drop)]
+#[derive(Clone, Copy)]
 pub struct Changed {
     pub orders: Orders,
     pub fit: Fit,

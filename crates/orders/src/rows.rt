@@ -14,7 +14,7 @@ pub const LEVELS: usize = 10;
 
 // A price with the exact sum of the shares and the number of live orders at it. A row that is not needed is marked, and all zero: 0 is a price too.
 #[repr(C)]
-#[derive(Drop)]
+#[derive(Clone, Copy)]
 pub struct LevelRow {
     pub used: bool,
     pub price: u32,

@@ -7,7 +7,7 @@ ghost use Rattle.orders.specs.Rules.{apply_to};
 use crate::{Change, Fit, ORDERS, Order, no_order};
 
 // Whether it fits. If it does, the place `gone` is emptied and then the order goes to its place: ORDERS for none. What doesn't fit changes no place, and has an empty order.
-#[derive(Drop)]
+#[derive(Clone, Copy)]
 pub struct Verdict {
     pub fit: Fit,
     pub gone: usize,

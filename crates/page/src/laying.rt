@@ -23,7 +23,7 @@ const NOTES: usize = 4096;
 const NO_ROOM: u8 = 15;
 
 // Texts that are laid: where the next message starts, the place of the last one, how many bytes there are, and of how many messages.
-#[derive(Drop)]
+#[derive(Clone, Copy)]
 struct Texts {
     at: usize,
     place: u64,
@@ -33,7 +33,7 @@ struct Texts {
 
 // After the messages laid: the state, where the next message starts, the place of the last one, how many bytes are laid, and why no more: the answer that stopped
 // the walk, or 15 where the next text might not fit.
-#[derive(Drop)]
+#[derive(Clone, Copy)]
 pub struct Laid {
     pub book: Book,
     pub at: usize,

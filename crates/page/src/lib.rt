@@ -19,7 +19,7 @@ pub use levels::lay_levels;
 pub use printing::line;
 
 // What printing a line answers: how many bytes, or why none. A bad field comes with the offset of the first one.
-#[derive(Drop)]
+#[derive(Clone, Copy)]
 pub enum Printed {
     Bytes(usize),
     BadType,

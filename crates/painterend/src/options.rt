@@ -3,7 +3,7 @@ ghost use Rattle.std.specs.Prelude.{◌≡◌, ◌-◌, ◌≤◌};
 ghost use Rattle.painterend.specs.Options.{is_levels, asked_with, HeardOne, HeardAll};
 
 // What was asked for, and whether a word was no option.
-#[derive(Drop)]
+#[derive(Clone, Copy)]
 pub(crate) struct Options {
     pub(crate) levels: bool,
     pub(crate) bad: bool,

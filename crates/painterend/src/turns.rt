@@ -18,7 +18,7 @@ const NO_ROOM: u8 = 15;
 
 // Between two turns: what the last one laid, how many bytes of the buffer are filled, whether there is more to do, whether an error was reported, and whether levels
 // are laid behind the end.
-#[derive(Drop)]
+#[derive(Clone, Copy)]
 pub(crate) struct State {
     pub(crate) laid: Laid,
     pub(crate) full: usize,
@@ -63,7 +63,7 @@ pub(crate) fn failing(l: Laid) -> State
 }
 
 // Whether a read failed, and how many bytes of the buffer are filled after it.
-#[derive(Drop)]
+#[derive(Clone, Copy)]
 struct Filled {
     failed: bool,
     full: usize,

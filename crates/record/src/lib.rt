@@ -34,7 +34,7 @@ pub const CROSS_PLACES: usize = SYMBOLS * CROSSES;
 
 // A place for a trade: empty, or a kept one.
 #[repr(C)]
-#[derive(Drop)]
+#[derive(Clone, Copy)]
 pub struct Trade {
     live: bool,
     number: u32,
@@ -44,7 +44,7 @@ pub struct Trade {
 
 // A place for a cross: empty, or a kept one. Nothing that is asked reads its price or its type.
 #[repr(C)]
-#[derive(Drop)]
+#[derive(Clone, Copy)]
 pub struct Cross {
     live: bool,
     number: u32,
@@ -53,7 +53,7 @@ pub struct Cross {
 
 // The trades, and what searches read of them: at each place its trade's number and one, or 0 where it is empty. The crosses, and their stubs likewise.
 #[repr(C)]
-#[derive(Drop)]
+#[derive(Clone, Copy)]
 pub struct Record {
     pub places: [Trade; PLACES],
     pub tickets: [u64; PLACES],
@@ -62,7 +62,7 @@ pub struct Record {
 }
 
 // What is done to a symbol's record. A trade comes as its number, its price and its volume, a cross or its correction as its number and its volume.
-#[derive(Drop)]
+#[derive(Clone, Copy)]
 pub enum Deal {
     Nothing,
     Records(u32, u32, u32),
@@ -72,7 +72,7 @@ pub enum Deal {
 }
 
 // The next record, and whether the symbol's record loses its mark. Where it does, nothing was kept, changed or removed.
-#[derive(Drop)]
+#[derive(Clone, Copy)]
 pub struct Dealt {
     pub trades: Record,
     pub lost: bool,

@@ -6,7 +6,7 @@ ghost use Rattle.record.specs.Deciding.{TradeShelf, CrossShelf, TradeAt, TradeRo
 use crate::{CROSSES, Cross, Deal, TRADES, Trade, no_cross, no_trade};
 
 // The places to change (TRADES and CROSSES: none), and whether the whole mark goes.
-#[derive(Drop)]
+#[derive(Clone, Copy)]
 pub struct Recording {
     pub place: usize,
     pub trade: Trade,

@@ -19,7 +19,7 @@ pub const NAME: usize = 11;
 
 // Where a symbol stands: the number that it expects, whether it is refused until a clear, and whether its record is whole.
 #[repr(C)]
-#[derive(Drop)]
+#[derive(Clone, Copy)]
 pub struct Standing {
     pub expected: u64,
     pub stale: bool,
@@ -28,7 +28,7 @@ pub struct Standing {
 
 // A place of registration: empty, or a symbol's. The name is padded with zeros.
 #[repr(C)]
-#[derive(Drop)]
+#[derive(Clone, Copy)]
 pub struct Place {
     len: usize,
     name: [u8; NAME],
@@ -40,7 +40,7 @@ pub struct Place {
 
 // The places, and what a search by index reads of them: at each place its symbol's index and one, or 0 where it is empty.
 #[repr(C)]
-#[derive(Drop)]
+#[derive(Clone, Copy)]
 pub struct Symbols {
     pub places: [Place; SYMBOLS],
     pub tickets: [u64; SYMBOLS],

@@ -14,7 +14,7 @@ use places::SYMBOLS;
 const MOST_SCALE: u8 = 6;
 
 // What `told` answers: the name, of so many bytes and zeros after them, and the scale of the prices; or 5, and zeros.
-#[derive(Drop)]
+#[derive(Clone, Copy)]
 pub struct Listing {
     pub answer: u8,
     pub name: [u8; NAME],
@@ -23,7 +23,7 @@ pub struct Listing {
 }
 
 // The next symbols, and document 01's number.
-#[derive(Drop)]
+#[derive(Clone, Copy)]
 pub struct Entered {
     pub symbols: Symbols,
     pub answer: u8,

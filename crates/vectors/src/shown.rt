@@ -3,7 +3,7 @@ use libc::STDOUT_FILENO;
 use wire::{Head, Message};
 
 // The scalar fields of a message after its head; the seconds, in form S, before it.
-#[derive(Drop)]
+#[derive(Clone, Copy)]
 struct Scalars {
     timed: bool,
     seconds: u32,

@@ -14,7 +14,7 @@ const NANOS: u32 = 1000000000;
 pub(crate) const NUMBERS: usize = 15;
 
 // The fields of all the types, in the order of their offsets. Those that a type lacks are 0.
-#[derive(Drop)]
+#[derive(Clone, Copy)]
 pub(crate) struct Fields {
     pub(crate) seconds: u32,
     pub(crate) nanos: u32,

@@ -30,7 +30,7 @@ pub const BUY: u8 = b'B';
 pub const SELL: u8 = b'S';
 
 // What every message has. In a symbol clear the number is the next symbol number.
-#[derive(Drop)]
+#[derive(Clone, Copy)]
 pub struct Head {
     pub nanos: u32,
     pub index: u32,
@@ -38,7 +38,7 @@ pub struct Head {
 }
 
 // A typed message: its scalar fields. Its byte array (firm, conditions or plain bytes) is kept beside it.
-#[derive(Drop)]
+#[derive(Clone, Copy)]
 pub enum Message {
     Add {
         head: Head,
@@ -117,7 +117,7 @@ pub enum Message {
 }
 
 // What stands at a position: a message of so many bytes, too few bytes, or a Msg Size below 4.
-#[derive(Drop)]
+#[derive(Clone, Copy)]
 pub enum Reach {
     Size(usize),
     Short,
@@ -125,14 +125,14 @@ pub enum Reach {
 }
 
 // The first bad field of a message: none, or the one that starts at this offset in the message, where Msg Size stands at 0.
-#[derive(Drop)]
+#[derive(Clone, Copy)]
 pub enum Fault {
     Nothing,
     At(usize),
 }
 
 // What reading answers. A bad field comes with the offset of the first one.
-#[derive(Drop)]
+#[derive(Clone, Copy)]
 pub enum Answer {
     Message(Message),
     Short,
@@ -142,14 +142,14 @@ pub enum Answer {
 }
 
 // The answer with the message's byte array beside it, zeros after its end. A refused read has zeros alone.
-#[derive(Drop)]
+#[derive(Clone, Copy)]
 pub struct Decoded {
     pub answer: Answer,
     pub plain: [u8; PLAIN],
 }
 
 // What writing answers: how many bytes, or why none. A bad field comes with the offset of the first one.
-#[derive(Drop)]
+#[derive(Clone, Copy)]
 pub enum Written {
     Bytes(usize),
     BadType,

@@ -3,7 +3,7 @@ ghost use Rattle.std.specs.Prelude.{◌≡◌};
 ghost use Rattle.wire.specs.Table.{shape_of};
 
 // The types of the table.
-#[derive(Drop)]
+#[derive(Clone, Copy)]
 pub(crate) enum Kind {
     Add,
     Modify,
@@ -28,7 +28,7 @@ pub(crate) const S: usize = 8;
 // Where each further field starts. All types have their fields in one order, and each field ends where the next one starts: a field that a type lacks
 // is empty. `fresh` is a replace's new order, `id` a trade or cross number, `flag` position or printable, `letter` cross type or indicator, `plain` firm, conditions or plain bytes; the
 // bytes of `gap` and `pad` are reserved. `positive` says that volume 0 is bad, `coded` that `plain` holds conditions.
-#[derive(Drop)]
+#[derive(Clone, Copy)]
 pub(crate) struct Layout {
     pub(crate) kind: Kind,
     pub(crate) positive: bool,
@@ -48,7 +48,7 @@ pub(crate) struct Layout {
     pub(crate) pad: usize,
 }
 
-#[derive(Drop)]
+#[derive(Clone, Copy)]
 pub(crate) enum Shape {
     Known(Layout),
     Unknown,
