@@ -1,5 +1,5 @@
 pub mod Sizes
-pub mod Recording
+pub mod Recorded
 pub mod Storing
 pub mod Holding
 pub mod OneOutcome

@@ -10,8 +10,8 @@ use Rattle.wire.proofs.bytes.put_plain.Goals as goal
 
 pub loop-i-preserved : goal.loop-i-preserved
 loop-i-preserved c = let a = c.args in
-    let long : length a.t4 ≡ 53 = search rules in (
+    let long : length a.plain ≡ 53 = search rules in (
       omega arith,
-      length-set c.loop-i.out (a.a + c.loop-i.i) (get_or a.t4 c.loop-i.i 0) ∙ c.loop-i.invariant.1,
-      rw (add-one c.loop-i.i, c.loop-i.invariant.2) (paste-suc a.out.now a.a a.t4 c.loop-i.i 0 (omega arith) (omega arith)),
+      length-set c.loop-i.out (a.a + c.loop-i.i) (get_or a.plain c.loop-i.i 0) ∙ c.loop-i.invariant.1,
+      rw (add-one c.loop-i.i, c.loop-i.invariant.2) (paste-suc a.out.now a.a a.plain c.loop-i.i 0 (omega arith) (omega arith)),
     )

@@ -1,25 +1,18 @@
 -- By the first bad field: each case is one law of reading. What was read of the array is its own bytes again.
-use mathlib.Core.Path.{◌≡◌, sym, ap, ◌∙◌}
-use Rattle.wire.specs.declared.Fault.{Fault}
+use mathlib.Core.Path.{sym, ap, ◌∙◌}
 use Rattle.wire.specs.Outcome.{done, only}
-use Rattle.wire.specs.Fields.{array_at, array_of, fault_of, fields_at}
+use Rattle.wire.specs.Fields.{array_of, fault_of, fields_at}
 use Rattle.wire.specs.Message.{message_of}
 use Rattle.wire.specs.Reading.{decoded_as, read_as}
 use Rattle.wire.proofs.ByteArrays.{array_again}
 use Rattle.wire.proofs.Cases.{read_good, read_bad_field}
 use Rattle.wire.proofs.reading.decode_body.Goals as goal
 
-fault-is : (k : tie.After-fault-of) (x : Fault) → k.fault-of.result ≡ x
-    → fault_of k.before.before.before.before.args.market k.before.before.before.before.args.l (fields_at k.before.before.before.before.args.s.now k.before.before.before.before.args.l) (array_at k.before.before.before.before.args.s.now k.before.before.before.before.args.l) ≡ x
-fault-is k x e = let b = k.before.before.before.before in let a = b.args in
-    sym (k.fault-of.ensures ∙ (λ i. fault_of a.market a.l (k.before.before.fields_at.ensures i) (array_of a.l (k.before.plain_at.ensures i)))
-    ∙ ap (fault_of a.market a.l (fields_at a.s.now a.l)) (array_again a.s.now a.l b.requires.0 b.requires.1)) ∙ e
-
 pub returns-in-At : goal.returns-in-At
 returns-in-At c = let a = c.args in
-    ap decoded_as c.refused.ensures ∙ sym (read_bad_field a.market a.s.now a.l _ (fault-is c _ c.in-At.is))
+    ap decoded_as c.refused.ensures ∙ sym (read_bad_field a.market a.s.now a.l _ ((let a = c.args in sym (c.fault_of-fault.ensures ∙ (λ i. fault_of a.market a.l (c.fields_at-f.ensures i) (array_of a.l (c.plain_at-plain.ensures i))) ∙ ap (fault_of a.market a.l (fields_at a.s.now a.l)) (array_again a.s.now a.l c.requires.0 c.requires.1)) ∙ c.in-At.is)))
 
 pub returns-in-Nothing : goal.returns-in-Nothing
 returns-in-Nothing c = let a = c.args in
     c.decode_good.ensures ∙ (λ i. read_as (only (done (message_of a.l.kind (c.fields_at-f.ensures i)))) (c.plain_at-plain.ensures i))
-    ∙ sym (read_good a.market a.s.now a.l (fault-is c _ c.in-Nothing.is))
+    ∙ sym (read_good a.market a.s.now a.l ((let a = c.args in sym (c.fault_of-fault.ensures ∙ (λ i. fault_of a.market a.l (c.fields_at-f.ensures i) (array_of a.l (c.plain_at-plain.ensures i))) ∙ ap (fault_of a.market a.l (fields_at a.s.now a.l)) (array_again a.s.now a.l c.requires.0 c.requires.1)) ∙ c.in-Nothing.is)))

@@ -8,19 +8,17 @@ use Rattle.wire.specs.Message.{fault_under, fault_in}
 use Rattle.wire.proofs.Layouts.{layout_sane}
 use Rattle.wire.proofs.typed.bad_field.Goals as goal
 
-fault-is : (k : tie.After-shape-of) (x : Shape) → k.shape-of.result ≡ x → fault_under x k.before.before.before.args.market k.before.before.before.args.m k.before.before.before.args.plain ≡ fault_in k.before.before.before.args.market k.before.before.before.args.m k.before.before.before.args.plain
-unfolding fault_in
-fault-is k x e = let a = k.before.before.before.args in
-    ap (λ (y : Shape). fault_under y a.market a.m a.plain) (sym e ∙ k.shape-of.ensures ∙ ap shape_of k.before.before.type-of.ensures)
-
 pub returns-in_default : goal.returns-in_default
-returns-in_default c = ap fault_as (fault-is c{-place After-shape_of-} _ c.in_default.is)
+unfolding fault_in
+returns-in_default c = let a = c.args in
+    ap fault_as (ap (λ (y : Shape). fault_under y a.market a.m a.plain) (sym c.in_default.is ∙ c.shape_of-shape.ensures ∙ ap shape_of c.type_of-number.ensures))
 
 pub fault_of-requires : goal.fault_of-requires
 fault_of-requires c = layout_sane _ _ (sym c.shape_of-shape.ensures ∙ c.in-Known.is)
 
 pub returns : goal.returns
+unfolding fault_in
 returns c = let a = c.args in
     let l = c.in-Known.l in
     ap fault_as (c.fault_of.ensures ∙ ap (λ (f : Fields). fault_of a.market l f (array_of l a.plain)) c.fields_of-f.ensures.0
-    ∙ fault-is c{-place After-shape_of-} _ c.in-Known.is)
+    ∙ ap (λ (y : Shape). fault_under y a.market a.m a.plain) (sym c.in-Known.is ∙ c.shape_of-shape.ensures ∙ ap shape_of c.type_of-number.ensures))
