@@ -17,10 +17,10 @@ use Rattle.orders.specs.contracts.Orders.{the_type}
 
 module _ (b : Orders) (vs : List Val) (g : Is (row the_type) b vs) where
   pub places_size : length b.places ≡ symbols * orders_each
-  places_size = sym (length-map b.places _) ∙ g.1.1.0.1.0.1
+  places_size = g.1.1.0.1.0.1
 
   spans_size : length b.spans ≡ symbols * orders_each
-  spans_size = sym (length-map b.spans _) ∙ g.1.1.1.1.1.0.1.0.1
+  spans_size = g.1.1.1.1.1.0.1.0.1
 
   pub sized : Sized b
   sized = record { places = places_size; spans = spans_size }

@@ -14,10 +14,10 @@ use Rattle.record.specs.contracts.Record.{the_type}
 
 module _ (b : Record) (vs : List Val) (g : Is (row the_type) b vs) where
   pub places_size : length b.places ≡ symbols * trades_each
-  places_size = sym (length-map b.places _) ∙ g.1.1.0.1.0.1
+  places_size = g.1.1.0.1.0.1
 
   pub crosses_size : length b.crosses ≡ symbols * crosses_each
-  crosses_size = sym (length-map b.crosses _) ∙ g.1.1.1.1.0.1.0.1
+  crosses_size = g.1.1.1.1.0.1.0.1
 
   -- so each symbol's shelf lies within its array
   module _ (k : ℕ) (h : k < symbols) where

@@ -11,4 +11,4 @@ use Rattle.symbols.specs.contracts.Symbols.{the_type}
 
 module _ (b : Symbols) (vs : List Val) (g : Is (row the_type) b vs) where
   pub places_size : length b.places ≡ symbols
-  places_size = sym (length-map b.places _) ∙ g.1.1.0.1.0.1
+  places_size = g.1.1.0.1.0.1

@@ -1,0 +1,11 @@
+-- The turn is tested on where the place's symbol stands.
+use Rattle.symbols.specs.Turns.{turn_at}
+use Rattle.symbols.proofs.turns.turn_of.Goals as goal
+
+pub returns-then-p : goal.returns-then-p
+unfolding turn_at
+returns-then-p c = rw c.if-p.true c.turn.ensures
+
+pub returns : goal.returns
+unfolding turn_at
+returns c = rw c.if-p.false
