@@ -46,8 +46,8 @@ module _ (v : View) (index number : ℕ) (x : Symbol) (there : symbol_in index v
   counts kept = rw (dealt, kept, there)
 
   -- the mark goes
-  pub left_out : LeftOut x.kept d → symbol_in index after ≡ some (left_out x)
-  left_out l = dealt ∙ rw (l.lost, l.kept) refl
+  pub left_out_lem : LeftOut x.kept d → symbol_in index after ≡ some (left_out x)
+  left_out_lem l = dealt ∙ rw (l.lost, l.kept) refl
 
 -- ---- where it counts: the day's volume, and the cross that is then kept
 module _ (v : View) (index number : ℕ) (x : Symbol) (there : symbol_in index v ≡ some x) (n vol : ℕ) where

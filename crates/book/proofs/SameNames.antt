@@ -48,4 +48,4 @@ told_step i v d = go d.outcome
 pub told_steps : (i : ℕ) (v : View) (ms : List (List ℕ)) → told_in i (steps_of v ms) ≡ told_in i v
 unfolding steps_of
 told_steps i v [] = refl
-told_steps i v (m ∷ ms) = told_steps i _ ms ∙ told_step i v (read_of v.market m)
+told_steps i v (m ∷ ms) = told_steps i (step_of v (read_of v.market m)).view ms ∙ told_step i v (read_of v.market m)
