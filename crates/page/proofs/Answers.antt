@@ -46,7 +46,7 @@ line_answers market s m plain sequence second out = by_checks _ _ _ _ _ _ out re
 module _ (market : Market) (m : Message) (plain : List ℕ) where
   -- of a message that has a line the test of its fields says it all
   with_line : has_no_line (type_of m) ≡ false → (number offset : ℕ) → Locates (FirstBadOf market m plain) number offset → Locates (FirstBadOn market m plain) number offset
-  with_line type number offset l = record { bad_field = λ four. record { has_line = type; first = l.bad_field four }; answered = λ n x. l.answered n x.first; no_field = l.no-field }
+  with_line type number offset l = record { bad_field = λ four. record { has_line = type; first = l.bad_field four }; answered = λ n x. l.answered n x.first; no_field = l.no_field }
 
   -- where none is bad
   none_bad : fault_in market m plain ≡ Fault.Nothing → (n : ℕ) → FirstBadOn market m plain n → ⊥

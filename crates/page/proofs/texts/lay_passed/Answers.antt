@@ -1,5 +1,6 @@
 -- By the answer, by what was read and by its type: each case is one law of the printout, whatever the view is that tells the name.
 use Rattle.std.proofs.Common.{ℕ, [], sym, ap, ◌∙◌, arith, rules}
+use borrow.Enum.Refused.{opened}
 use Rattle.wire.specs.Reading.{Read, answered_as}
 use Rattle.wire.specs.Message.{type_of}
 use Rattle.wire.specs.declared.Answer.{Answer}
@@ -33,21 +34,21 @@ returns-in_default c = let a = c.args in
       text = [];
       short = omega arith;
       appends = lays_nothing _ _;
-      told = λ v tells. sym ((let a = c.args in passed_done a.market v a.message.now a.answer a.place a.second c.if-answer-ne0.false ∙ ap (λ (d : Read). done_text v d.outcome d.plain a.place a.second) (sym c.decode-d.ensures.reads)) ∙ unread_prints v c.decode-d.result.answer _ a.place a.second c.in_default.in_default-own.keys2);
+      told = λ v tells. sym (passed_done a.market v a.message.now a.answer a.place a.second c.if-answer-ne0.false ∙ ap (λ (d : Read). done_text v d.outcome d.plain a.place a.second) (sym c.decode-d.ensures.reads) ∙ unread_prints v c.decode-d.result.answer _ a.place a.second (opened c.in_default.in_default-own.keys2));
     }
 
 pub returns-then-has_no_line : goal.returns-then-has_no_line
-returns-then-has_no_line c = let m = c.a-1.given in
+returns-then-has_no_line c = let m = c.in-Message in
     let a = c.args in
     record {
       text = [];
       short = omega arith;
       appends = lays_nothing _ _;
-      told = λ v tells. sym ((let a = c.args in passed_done a.market v a.message.now a.answer a.place a.second c.if-answer-ne0.false ∙ ap (λ (d : Read). done_text v d.outcome d.plain a.place a.second) (sym c.decode-d.ensures.reads)) ∙ (let a = c.args in ap (λ (x : Answer). done_text v (answered_as x).outcome c.decode-d.result.plain a.place a.second) m.1) ∙ no_line_prints v m.0.0 _ a.place a.second ((ap has_no_line (sym c.type_of.ensures) ∙ sym c.has_no_line.ensures ∙ c.if-has_no_line.true)));
+      told = λ v tells. sym (passed_done a.market v a.message.now a.answer a.place a.second c.if-answer-ne0.false ∙ ap (λ (d : Read). done_text v d.outcome d.plain a.place a.second) (sym c.decode-d.ensures.reads) ∙ ap (λ (x : Answer). done_text v (answered_as x).outcome c.decode-d.result.plain a.place a.second) m.is ∙ no_line_prints v m.m _ a.place a.second (ap has_no_line (sym c.type_of.ensures) ∙ sym c.has_no_line.ensures ∙ c.if-has_no_line.true));
     }
 
 pub returns : goal.returns
-returns c = let m = c.a-1.given in
+returns c = let m = c.in-Message in
     let a = c.args in
     record {
       text = held c.line_of.result;
@@ -55,6 +56,6 @@ returns c = let m = c.a-1.given in
       appends = c.append-2.ensures;
       told = λ v tells.
           c.line_of.ensures
-          ∙ ap (λ (s : Listing). rendered (columns_of s m.0.0 c.decode-d.result.plain (sequence_of a.place) a.second)) (c.told-s.ensures ∙ tells _ ∙ ap (λ i. told_in i v) c.index_of.ensures)
-          ∙ sym ((let a = c.args in passed_done a.market v a.message.now a.answer a.place a.second c.if-answer-ne0.false ∙ ap (λ (d : Read). done_text v d.outcome d.plain a.place a.second) (sym c.decode-d.ensures.reads)) ∙ (let a = c.args in ap (λ (x : Answer). done_text v (answered_as x).outcome c.decode-d.result.plain a.place a.second) m.1) ∙ line_prints v m.0.0 _ a.place a.second ((ap has_no_line (sym c.type_of.ensures) ∙ sym c.has_no_line.ensures ∙ c.if-has_no_line.false)));
+          ∙ ap (λ (s : Listing). rendered (columns_of s m.m c.decode-d.result.plain (sequence_of a.place) a.second)) (c.told-s.ensures ∙ tells _ ∙ ap (λ i. told_in i v) c.index_of.ensures)
+          ∙ sym (passed_done a.market v a.message.now a.answer a.place a.second c.if-answer-ne0.false ∙ ap (λ (d : Read). done_text v d.outcome d.plain a.place a.second) (sym c.decode-d.ensures.reads) ∙ ap (λ (x : Answer). done_text v (answered_as x).outcome c.decode-d.result.plain a.place a.second) m.is ∙ line_prints v m.m _ a.place a.second (ap has_no_line (sym c.type_of.ensures) ∙ sym c.has_no_line.ensures ∙ c.if-has_no_line.false));
     }
