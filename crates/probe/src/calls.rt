@@ -6,41 +6,43 @@ use crate::shown;
 use crate::timed::with_nanos;
 use book::Book;
 use markets::{Market, Named};
+use std::io;
+use std::io::Write;
 use wire::{Answer, Message, PLAIN, Reach};
 
 // Makes the call that c is, prints its line and hands the next state back.
-pub(crate) fn call(b: Book, c: &[u8]) -> Book {
+pub(crate) fn call(out: &mut impl Write, b: Book, c: &[u8]) -> io::Result<Book> {
     let which = byte_at(c, 0);
-    shown::letter(which);
+    shown::letter(out, which)?;
     match which {
-        b'N' => Book::new(Market::Nyse),
-        b'M' => new_state(b, byte_at(c, 1)),
-        b'G' => register(b, c),
-        b'S' => step(b, c),
-        b'X' => run(b, c),
+        b'N' => Ok(Book::new(Market::Nyse)),
+        b'M' => Ok(new_state(b, byte_at(c, 1))),
+        b'G' => register(out, b, c),
+        b'S' => step(out, b, c),
+        b'X' => run(out, b, c),
         b'Q' => {
-            quote(b, number32(c, 1));
-            b
+            quote(out, b, number32(c, 1))?;
+            Ok(b)
         }
         b'V' => {
-            volume(b, number32(c, 1));
-            b
+            volume(out, b, number32(c, 1))?;
+            Ok(b)
         }
         b'H' => {
-            depth(b, number32(c, 1));
-            b
+            depth(out, b, number32(c, 1))?;
+            Ok(b)
         }
         b'D' => {
-            read(b.market(), c);
-            b
+            read(out, b.market(), c)?;
+            Ok(b)
         }
         b'W' => {
-            write(b.market(), c);
-            b
+            write(out, b.market(), c)?;
+            Ok(b)
         }
         _ => {
-            line(b, c);
-            b
+            line(out, b, c)?;
+            Ok(b)
         }
     }
 }
@@ -53,74 +55,74 @@ fn new_state(b: Book, number: u8) -> Book {
     }
 }
 
-fn register(b: Book, c: &[u8]) -> Book {
+fn register(out: &mut impl Write, b: Book, c: &[u8]) -> io::Result<Book> {
     let r = b.register(number32(c, 1), rest(c, 7), byte_at(c, 5));
-    shown::answer(r.answer);
-    r.book
+    shown::answer(out, r.answer)?;
+    Ok(r.book)
 }
 
-fn step(b: Book, c: &[u8]) -> Book {
+fn step(out: &mut impl Write, b: Book, c: &[u8]) -> io::Result<Book> {
     let r = b.apply(rest(c, 5), number16(c, 1) as usize);
-    shown::answer(r.answer);
-    shown::position(r.at);
-    shown::offset(r.offset);
-    r.book
+    shown::answer(out, r.answer)?;
+    shown::position(out, r.at)?;
+    shown::offset(out, r.offset)?;
+    Ok(r.book)
 }
 
-fn run(b: Book, c: &[u8]) -> Book {
+fn run(out: &mut impl Write, b: Book, c: &[u8]) -> io::Result<Book> {
     let r = b.run(rest(c, 5), number16(c, 1) as usize);
-    shown::answer(r.answer);
-    shown::position(r.at);
-    r.book
+    shown::answer(out, r.answer)?;
+    shown::position(out, r.at)?;
+    Ok(r.book)
 }
 
-fn quote(b: Book, index: u32) {
+fn quote(out: &mut impl Write, b: Book, index: u32) -> io::Result<()> {
     let q = b.quote(index);
-    shown::answer(q.answer);
+    shown::answer(out, q.answer)?;
     let bid = q.bid;
     let ask = q.ask;
-    shown::level(bid);
-    shown::level(ask);
+    shown::level(out, bid)?;
+    shown::level(out, ask)
 }
 
-fn volume(b: Book, index: u32) {
+fn volume(out: &mut impl Write, b: Book, index: u32) -> io::Result<()> {
     let v = b.day_volume(index);
-    shown::answer(v.answer);
-    shown::number(v.shares);
+    shown::answer(out, v.answer)?;
+    shown::number(out, v.shares)?;
     if v.whole {
-        shown::number(1);
+        shown::number(out, 1)
     } else {
-        shown::number(0);
+        shown::number(out, 0)
     }
 }
 
-fn depth(b: Book, index: u32) {
+fn depth(out: &mut impl Write, b: Book, index: u32) -> io::Result<()> {
     let d = b.depth(index);
-    shown::answer(d.answer);
+    shown::answer(out, d.answer)?;
     let bids = d.bids;
     let asks = d.asks;
-    shown::rows(bids);
-    shown::rows(asks);
+    shown::rows(out, bids)?;
+    shown::rows(out, asks)
 }
 
-fn read(market: Market, c: &[u8]) {
+fn read(out: &mut impl Write, market: Market, c: &[u8]) -> io::Result<()> {
     let s = rest(c, 5);
     let at = number16(c, 1) as usize;
     match wire::reach_at(s, at) {
         Reach::Size(n) => {
             let d = wire::decode(market, rest(s, at));
             let a = d.answer;
-            shown::answer(wire::number_of_answer(a));
-            shown::position(at + n);
-            shown::offset(wire::offset_of_answer(a));
+            shown::answer(out, wire::number_of_answer(a))?;
+            shown::position(out, at + n)?;
+            shown::offset(out, wire::offset_of_answer(a))
         }
         Reach::Short => {
-            shown::answer(1);
-            shown::position(at);
+            shown::answer(out, 1)?;
+            shown::position(out, at)
         }
         Reach::Small => {
-            shown::answer(2);
-            shown::position(at);
+            shown::answer(out, 2)?;
+            shown::position(out, at)
         }
     }
 }
@@ -133,67 +135,81 @@ fn untouched() -> [u8; ROOM]
 }
 
 // Of bytes that did not read as a message.
-fn unread(a: Answer) {
-    shown::answer(wire::number_of_answer(a));
-    shown::offset(wire::offset_of_answer(a));
+fn unread(out: &mut impl Write, a: Answer) -> io::Result<()> {
+    shown::answer(out, wire::number_of_answer(a))?;
+    shown::offset(out, wire::offset_of_answer(a))
 }
 
-fn write(market: Market, c: &[u8]) {
+fn write(out: &mut impl Write, market: Market, c: &[u8]) -> io::Result<()> {
     let d = wire::decode(market, rest(c, 9));
     let a = d.answer;
     let Answer::Message(m) = a else {
-        unread(a);
-        return;
+        return unread(out, a);
     };
     let room = number16(c, 5) as usize;
     if ROOM < room {
-        return;
+        return Ok(());
     }
     let plain = d.plain;
-    let mut out = untouched();
+    let mut written = untouched();
     write_into(
+        out,
         market,
         with_nanos(m, number32(c, 1)),
         plain,
-        &mut out[..room],
-    );
+        &mut written[..room],
+    )
 }
 
-fn write_into(market: Market, m: Message, plain: [u8; PLAIN], out: &mut [u8]) {
-    let w = wire::encode(market, m, plain, out);
-    shown::answer(wire::number_of_written(w));
-    shown::position(wire::count_of_written(w));
-    shown::bytes(out);
-    shown::offset(wire::offset_of_written(w));
+fn write_into(
+    out: &mut impl Write,
+    market: Market,
+    m: Message,
+    plain: [u8; PLAIN],
+    written: &mut [u8],
+) -> io::Result<()> {
+    let w = wire::encode(market, m, plain, written);
+    shown::answer(out, wire::number_of_written(w))?;
+    shown::position(out, wire::count_of_written(w))?;
+    shown::bytes(out, written)?;
+    shown::offset(out, wire::offset_of_written(w))
 }
 
-fn line(b: Book, c: &[u8]) {
+fn line(out: &mut impl Write, b: Book, c: &[u8]) -> io::Result<()> {
     let d = wire::decode(b.market(), rest(c, 17));
     let a = d.answer;
     let Answer::Message(m) = a else {
-        unread(a);
-        return;
+        return unread(out, a);
     };
     let room = number16(c, 13) as usize;
     if ROOM < room {
-        return;
+        return Ok(());
     }
     let plain = d.plain;
-    let mut out = untouched();
+    let mut written = untouched();
     line_into(
+        out,
         b,
         with_nanos(m, number32(c, 1)),
         plain,
         number32(c, 5),
         number32(c, 9),
-        &mut out[..room],
-    );
+        &mut written[..room],
+    )
 }
 
-fn line_into(b: Book, m: Message, plain: [u8; PLAIN], sequence: u32, second: u32, out: &mut [u8]) {
-    let p = page::line(b, m, plain, sequence, second, out);
-    shown::answer(page::number_of_line(p));
-    shown::position(page::count_of_line(p));
-    shown::bytes(out);
-    shown::offset(page::offset_of_line(p));
+fn line_into(
+    out: &mut impl Write,
+    b: Book,
+    m: Message,
+    plain: [u8; PLAIN],
+    sequence: u32,
+    second: u32,
+    written: &mut [u8],
+) -> io::Result<()> {
+    let p = page::line(b, m, plain, sequence, second, written);
+    shown::answer(out, page::number_of_line(p))?;
+    shown::position(out, page::count_of_line(p))?;
+    shown::bytes(out, written)?;
+    shown::offset(out, page::offset_of_line(p))
 }

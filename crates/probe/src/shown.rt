@@ -1,83 +1,81 @@
 // How answers are shown: a letter, then each value after a comma.
-use libc::STDOUT_FILENO;
 use orders::{LEVELS, Level, LevelRow};
+use std::io;
+use std::io::Write;
 
-pub(crate) fn letter(b: u8) {
-    io::write_all(STDOUT_FILENO, &[b]);
+pub(crate) fn letter(out: &mut impl Write, b: u8) -> io::Result<()> {
+    out.write_all(&[b])
 }
 
-pub(crate) fn number(n: u64) {
-    io::write_all(STDOUT_FILENO, b",");
-    io::print_decimal(STDOUT_FILENO, n);
+pub(crate) fn number(out: &mut impl Write, n: u64) -> io::Result<()> {
+    write!(out, ",{n}")
 }
 
-pub(crate) fn answer(a: u8) {
-    number(a as u64);
+pub(crate) fn answer(out: &mut impl Write, a: u8) -> io::Result<()> {
+    number(out, a as u64)
 }
 
-pub(crate) fn position(n: usize) {
-    number(n as u64);
+pub(crate) fn position(out: &mut impl Write, n: usize) -> io::Result<()> {
+    number(out, n as u64)
 }
 
 // The offset of a bad field, which stands at the end of a line; with none it is 0, and nothing stands there.
-pub(crate) fn offset(n: usize) {
+pub(crate) fn offset(out: &mut impl Write, n: usize) -> io::Result<()> {
     if n != 0 {
-        position(n);
+        position(out, n)?;
     }
+    Ok(())
 }
 
-pub(crate) fn end() {
-    io::write_all(STDOUT_FILENO, b"\n");
+pub(crate) fn end(out: &mut impl Write) -> io::Result<()> {
+    out.write_all(b"\n")
 }
 
-pub(crate) fn unknown() {
-    io::write_all(STDOUT_FILENO, b"?\n");
+pub(crate) fn unknown(out: &mut impl Write) -> io::Result<()> {
+    out.write_all(b"?\n")
 }
 
 // Price and size, or two empty fields.
-pub(crate) fn level(l: Level) {
+pub(crate) fn level(out: &mut impl Write, l: Level) -> io::Result<()> {
     match l {
-        Level::Empty => {
-            io::write_all(STDOUT_FILENO, b",,");
-        }
+        Level::Empty => out.write_all(b",,"),
         Level::Best { price, size } => {
-            number(price as u64);
-            number(size);
+            number(out, price as u64)?;
+            number(out, size)
         }
     }
 }
 
 // The rows of a side.
-pub(crate) fn rows(side: [LevelRow; LEVELS]) {
+pub(crate) fn rows(out: &mut impl Write, side: [LevelRow; LEVELS]) -> io::Result<()> {
     let mut i: usize = 0;
     while i < LEVELS {
         let r = side[i];
-        row(r);
+        row(out, r)?;
         i += 1;
     }
+    Ok(())
 }
 
 // Price, size and number of orders, or three empty fields.
-fn row(r: LevelRow) {
+fn row(out: &mut impl Write, r: LevelRow) -> io::Result<()> {
     if !r.used {
-        io::write_all(STDOUT_FILENO, b",,,");
-        return;
+        return out.write_all(b",,,");
     }
-    number(r.price as u64);
-    number(r.size);
-    number(r.orders as u64);
+    number(out, r.price as u64)?;
+    number(out, r.size)?;
+    number(out, r.orders as u64)
 }
 
-fn hex(b: u8) {
-    io::print_hex(STDOUT_FILENO, b as u64, 2);
+fn hex(out: &mut impl Write, b: u8) -> io::Result<()> {
+    write!(out, "{b:02x}")
 }
 
 // Every byte of a buffer in hex.
-pub(crate) fn bytes(b: &[u8]) {
-    io::write_all(STDOUT_FILENO, b",");
-    let mut i = 0;
-    while i < b.len() {
-        hex(b[i]);
-        i += 1;
+pub(crate) fn bytes(out: &mut impl Write, b: &[u8]) -> io::Result<()> {
+    out.write_all(b",")?;
+    for x in b {
+        hex(out, *x)?;
     }
+    Ok(())
 }

@@ -1,5 +1,6 @@
 // How answers are shown: numbers in decimal and bytes in hex, each after a comma.
-use libc::STDOUT_FILENO;
+use std::io;
+use std::io::Write;
 use wire::{Head, Message};
 
 // The scalar fields of a message after its head; the seconds, in form S, before it.
@@ -12,29 +13,28 @@ struct Scalars {
     values: [u64; 6],
 }
 
-pub(crate) fn print_number(n: u64) {
-    io::write_all(STDOUT_FILENO, b",");
-    io::print_decimal(STDOUT_FILENO, n);
+pub(crate) fn print_number(out: &mut impl Write, n: u64) -> io::Result<()> {
+    write!(out, ",{n}")
 }
 
 // The offset of a bad field; with none it is 0, and nothing stands there.
-pub(crate) fn print_offset(n: usize) {
+pub(crate) fn print_offset(out: &mut impl Write, n: usize) -> io::Result<()> {
     if n != 0 {
-        print_number(n as u64);
+        print_number(out, n as u64)?;
     }
+    Ok(())
 }
 
-pub(crate) fn print_bytes(b: &[u8]) {
-    io::write_all(STDOUT_FILENO, b",");
-    let mut i = 0;
-    while i < b.len() {
-        print_byte(b[i]);
-        i += 1;
+pub(crate) fn print_bytes(out: &mut impl Write, b: &[u8]) -> io::Result<()> {
+    out.write_all(b",")?;
+    for x in b {
+        print_byte(out, *x)?;
     }
+    Ok(())
 }
 
-fn print_byte(b: u8) {
-    io::print_hex(STDOUT_FILENO, b as u64, 2);
+fn print_byte(out: &mut impl Write, b: u8) -> io::Result<()> {
+    write!(out, "{b:02x}")
 }
 
 fn untimed(head: Head, count: usize, values: [u64; 6]) -> Scalars {
@@ -171,27 +171,28 @@ fn scalars_of(m: Message) -> Scalars {
     }
 }
 
-fn print_values(values: [u64; 6], count: usize) {
+fn print_values(out: &mut impl Write, values: [u64; 6], count: usize) -> io::Result<()> {
     let mut i = 0;
     while i < 6 {
         if i < count {
-            print_number(values[i]);
+            print_number(out, values[i])?;
         }
         i += 1;
     }
+    Ok(())
 }
 
 // The type, then the fields in the order of document 01's table.
-pub(crate) fn print_message(m: Message) {
+pub(crate) fn print_message(out: &mut impl Write, m: Message) -> io::Result<()> {
     let r = scalars_of(m);
     let head = r.head;
     let values = r.values;
-    print_number(wire::type_of(m) as u64);
+    print_number(out, wire::type_of(m) as u64)?;
     if r.timed {
-        print_number(wide(r.seconds));
+        print_number(out, wide(r.seconds))?;
     }
-    print_number(wide(head.nanos));
-    print_number(wide(head.index));
-    print_number(wide(head.number));
-    print_values(values, r.count);
+    print_number(out, wide(head.nanos))?;
+    print_number(out, wide(head.index))?;
+    print_number(out, wide(head.number))?;
+    print_values(out, values, r.count)
 }
