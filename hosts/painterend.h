@@ -1,7 +1,7 @@
 /*
  * painterend.h: the verified reader of the NYSE Pillar Integrated Feed, called from C or C++.
  *
- * Link with target/staticlib/libhost.a, which `rt staticlib host` makes: x86-64 Linux, System V calling rules. It calls
+ * Link with target/staticlib/libhost.a, which `hosts/archive` makes: x86-64 Linux, System V calling rules. It calls
  * nothing but memcpy and its like, allocates nothing, keeps nothing between calls and does no input or output.
  *
  * A book is the state of one market: up to eight registered symbols, each with its live orders, its kept trades and crosses

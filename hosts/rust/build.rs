@@ -24,7 +24,7 @@ fn link_archive() -> Result<(), String> {
     let folder = env::var_os(FOLDER).map(PathBuf::from).ok_or_else(|| {
         format!(
             "{FOLDER} is not set: it names the folder of {ARCHIVE}, \
-             target/staticlib after `rt staticlib host`"
+             target/staticlib after `hosts/archive`"
         )
     })?;
     let archive = folder.join(ARCHIVE);

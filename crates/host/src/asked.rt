@@ -25,8 +25,7 @@ pub struct Sides {
     pub ask: Side,
 }
 
-#[unsafe(no_mangle)]
-pub extern "C" fn painterend_quote(book: Book, index: u32) -> Sides
+pub fn painterend_quote(book: Book, index: u32) -> Sides
     ensures { result ≡ sides_of (quote_of index (view book)) }
 {
     let q = book.quote(index);
@@ -39,15 +38,13 @@ pub extern "C" fn painterend_quote(book: Book, index: u32) -> Sides
     }
 }
 
-#[unsafe(no_mangle)]
-pub extern "C" fn painterend_depth(book: Book, index: u32) -> Depth
+pub fn painterend_depth(book: Book, index: u32) -> Depth
     ensures { result ≡ depth_of index (view book) }
 {
     book.depth(index)
 }
 
-#[unsafe(no_mangle)]
-pub extern "C" fn painterend_volume(book: Book, index: u32) -> Volume
+pub fn painterend_volume(book: Book, index: u32) -> Volume
     ensures { result ≡ volume_of index (view book) }
 {
     book.day_volume(index)

@@ -35,8 +35,7 @@ struct Led {
 }
 
 // Applies the message at the front of the bytes.
-#[unsafe(no_mangle)]
-pub extern "C" fn painterend_apply(book: &mut Book, s: &[u8]) -> Passed
+pub fn painterend_apply(book: &mut Book, s: &[u8]) -> Passed
     ensures { MovedTo book.old s.now book.new result }
 {
     let n = push(*book, s);
@@ -45,8 +44,7 @@ pub extern "C" fn painterend_apply(book: &mut Book, s: &[u8]) -> Passed
 }
 
 // Applies the messages from the front of the bytes on, until answer 1 or a Msg Size below 4.
-#[unsafe(no_mangle)]
-pub extern "C" fn painterend_run(book: &mut Book, s: &[u8]) -> Ended
+pub fn painterend_run(book: &mut Book, s: &[u8]) -> Ended
     ensures { RanTo book.old s.now book.new result }
 {
     let n = lead(*book, s);

@@ -17,8 +17,7 @@ pub struct Made {
 }
 
 // A new book of the market with this Market ID, as source 002 has them. A number that names none is told, and the book is then one of NYSE.
-#[unsafe(no_mangle)]
-pub extern "C" fn painterend_new(market: u16) -> Made
+pub fn painterend_new(market: u16) -> Made
     ensures { MadeFor market result }
 {
     let n = markets::market_named(market);
@@ -34,8 +33,7 @@ pub extern "C" fn painterend_new(market: u16) -> Made
     }
 }
 
-#[unsafe(no_mangle)]
-pub extern "C" fn painterend_register(book: Book, index: u32, name: &[u8], scale: u8) -> Done
+pub fn painterend_register(book: Book, index: u32, name: &[u8], scale: u8) -> Done
     ensures { Steps book (register_of (view book) index name.now scale) result }
 {
     book.register(index, name, scale)
