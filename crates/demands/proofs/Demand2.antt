@@ -67,9 +67,9 @@ steps_others market index (m ∷ ms) v same other =
 left_out_of : (v : View) {message : Message} (x : Symbol) → LeavesOut x message → symbol_in (index_of (meant message)) v ≡ some x → (act_on v (meant message)).answer ≡ 0
     → symbol_in (index_of (meant message)) (act_on v (meant message)).view ≡ some (left_out x)
 unfolding meant
-left_out_of v x (repeated head cross price volume class y kept) there z = auctions.left_out v head.index head.number x there _ z (repeated_left_out x.kept cross volume y kept)
-left_out_of v x (full head cross price volume class crowded) there z = auctions.left_out v head.index head.number x there _ z (crowded_left_out x.kept cross volume crowded)
-left_out_of v x (unknown head cross volume new) there z = auctions.left_out v head.index head.number x there _ z (unknown_left_out x.kept cross volume new)
+left_out_of v x (repeated head cross price volume class y kept) there z = auctions.left_out_lem v head.index head.number x there _ z (repeated_left_out x.kept cross volume y kept)
+left_out_of v x (full head cross price volume class crowded) there z = auctions.left_out_lem v head.index head.number x there _ z (crowded_left_out x.kept cross volume crowded)
+left_out_of v x (unknown head cross volume new) there z = auctions.left_out_lem v head.index head.number x there _ z (unknown_left_out x.kept cross volume new)
 
 module _ {b : Book} (p : Reached b) where
   add_raises : {s : List ℕ} {at : ℕ} {m : List ℕ} {r : Moved} → Moves b s at r
@@ -154,7 +154,7 @@ module _ {b : Book} (p : Reached b) where
     execution = execution_takes_off m;
     cross_counts = cross_adds m;
     correction_counts = correction_takes_its_place m;
-    left_out = leaves_out m;
+    left_out_lem = leaves_out m;
     others_unchanged = λ index other. apply_others b s at r (reached_wf p) m index (λ n x e f. other (take n (drop at s)) (record { size = n; reaches = e; bytes = refl }) x f);
     mark_stays_lost = λ index. apply_mark index b s at r (reached_wf p) m;
     market_stays = m.market;

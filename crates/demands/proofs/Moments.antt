@@ -69,12 +69,12 @@ found market here f e = record { moment = f; earlier = now; is = e }
 found market {g = g} (more {f = x} {it = it} r p) f e = found_more market g x it (found market r) f e
 
 -- the moment just before a loss
-earlier_still : {k f : ByteFeed} {m : List ℕ} → Moment (loses k m) f → Moment k f
+earlier_still : {k : ByteFeed} {m : List ℕ} {f : ByteFeed} → Moment (loses k m) f → Moment k f
 earlier_still now = then_loses now
 earlier_still (then_hears p) = then_hears (earlier_still p)
 earlier_still (then_loses p) = then_loses (earlier_still p)
 
-before_heard : {k f : ByteFeed} {m : List ℕ} → Moment (hears k m) f → Moment k f
+before_heard : {k : ByteFeed} {m : List ℕ} {f : ByteFeed} → Moment (hears k m) f → Moment k f
 before_heard now = then_hears now
 before_heard (then_hears p) = then_hears (before_heard p)
 before_heard (then_loses p) = then_loses (before_heard p)

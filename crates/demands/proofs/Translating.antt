@@ -91,8 +91,8 @@ acts_last : (market : Market) (v w : View) (ms : List (List ℕ)) (m : List ℕ)
 acts_last market v w ms m same s e = steps_last v ms m ∙ ap (λ (x : Next). x.view) (step_acts (steps_of v ms) m s.act (says_after market v ms m same s.act s.is)) ∙ ap (λ (x : View). (act_on x s.act).view) e
 
 -- what holds of a feed and then what the message says holds of the feed with the message
-goes_on : (P : Feed Effect → Type 0) (market : Market) (f : ByteFeed) (m : List ℕ) (s : Says market m) (way : Act Effect → Item Effect) → P (feed_of market f ▷ way s.act) → P (goes_on (feed_of market f) way (act_in market m))
-goes_on P market f m s way h = subst (λ (x : Option (Act Effect)). P (goes_on (feed_of market f) way x)) (sym s.is) h
+goes_on_lem : (P : Feed Effect → Type 0) (market : Market) (f : ByteFeed) (m : List ℕ) (s : Says market m) (way : Act Effect → Item Effect) → P (feed_of market f ▷ way s.act) → P (goes_on (feed_of market f) way (act_in market m))
+goes_on_lem P market f m s way h = subst (λ (x : Option (Act Effect)). P (goes_on (feed_of market f) way x)) (sym s.is) h
 
 -- ---- the two readers, of the first one's market
 module _ (v : View) where
@@ -109,10 +109,10 @@ module _ (v : View) where
   first_steps begins a = refl
   first_steps (hears f m) a =
       let s = says f m a.1 in
-      goes_on (λ (g : Feed Effect). steps_of v (sent f ++ m ∷ []) ≡ first pillar reader v g) market f m s heard (acts_last market v (first pillar reader v (feed_of market f)) (sent f) m refl s (first_steps f a.0))
+      goes_on_lem (λ (g : Feed Effect). steps_of v (sent f ++ m ∷ []) ≡ first pillar reader v g) market f m s heard (acts_last market v (first pillar reader v (feed_of market f)) (sent f) m refl s (first_steps f a.0))
   first_steps (loses f m) a =
       let s = says f m a.1 in
-      goes_on (λ (g : Feed Effect). steps_of v (sent f ++ m ∷ []) ≡ first pillar reader v g) market f m s lost (acts_last market v (first pillar reader v (feed_of market f)) (sent f) m refl s (first_steps f a.0))
+      goes_on_lem (λ (g : Feed Effect). steps_of v (sent f ++ m ∷ []) ≡ first pillar reader v g) market f m s lost (acts_last market v (first pillar reader v (feed_of market f)) (sent f) m refl s (first_steps f a.0))
 
   module _ (w : View) (same : w.market ≡ market) where
     pub second_steps : (f : ByteFeed) → Applied v f → steps_of w (delivered f) ≡ second pillar reader w (feed_of market f)
@@ -120,8 +120,8 @@ module _ (v : View) where
     second_steps begins a = refl
     second_steps (hears f m) a =
         let s = says f m a.1 in
-        goes_on (λ (g : Feed Effect). steps_of w (delivered f ++ m ∷ []) ≡ second pillar reader w g) market f m s heard (acts_last market w (second pillar reader w (feed_of market f)) (delivered f) m same s (second_steps f a.0))
-    second_steps (loses f m) a = goes_on (λ (g : Feed Effect). steps_of w (delivered f) ≡ second pillar reader w g) market f m (says f m a.1) lost (second_steps f a.0)
+        goes_on_lem (λ (g : Feed Effect). steps_of w (delivered f ++ m ∷ []) ≡ second pillar reader w g) market f m s heard (acts_last market w (second pillar reader w (feed_of market f)) (delivered f) m same s (second_steps f a.0))
+    second_steps (loses f m) a = goes_on_lem (λ (g : Feed Effect). steps_of w (delivered f) ≡ second pillar reader w g) market f m (says f m a.1) lost (second_steps f a.0)
 
   -- what the second reader does with a message of the feed that it hears
   pub heard_says : (f : ByteFeed) (m : List ℕ) → Applied v (hears f m) → Says market m
@@ -140,8 +140,8 @@ module _ (v : View) where
   feed_accepted : (f : ByteFeed) → Applied v f → Accepted pillar reader v (feed_of market f)
   unfolding Applied feed_of Accepted
   feed_accepted begins a = tt
-  feed_accepted (hears f m) a = goes_on (Accepted pillar reader v) market f m (says f m a.1) heard (feed_accepted f a.0, next_accepted f m a.0 a.1)
-  feed_accepted (loses f m) a = goes_on (Accepted pillar reader v) market f m (says f m a.1) lost (feed_accepted f a.0, next_accepted f m a.0 a.1)
+  feed_accepted (hears f m) a = goes_on_lem (Accepted pillar reader v) market f m (says f m a.1) heard (feed_accepted f a.0, next_accepted f m a.0 a.1)
+  feed_accepted (loses f m) a = goes_on_lem (Accepted pillar reader v) market f m (says f m a.1) lost (feed_accepted f a.0, next_accepted f m a.0 a.1)
 
   lost_numbered : (g : Feed Effect) (x : Act Effect) → Numbered x → ClearsHeard g → ClearsHeard (g ▷ lost x)
   unfolding ClearsHeard
@@ -151,10 +151,10 @@ module _ (v : View) where
   clears_heard : (f : ByteFeed) → Applied v f → ClearsDelivered f → ClearsHeard (feed_of market f)
   unfolding Applied ClearsDelivered feed_of ClearsHeard
   clears_heard begins a c = tt
-  clears_heard (hears f m) a c = goes_on ClearsHeard market f m (says f m a.1) heard (clears_heard f a.0 c)
+  clears_heard (hears f m) a c = goes_on_lem ClearsHeard market f m (says f m a.1) heard (clears_heard f a.0 c)
   clears_heard (loses f m) a c =
       let s = says f m a.1 in
-      goes_on ClearsHeard market f m s lost (lost_numbered (feed_of market f) s.act (act_numbered market m s.act s.is c.1) (clears_heard f a.0 c.0))
+      goes_on_lem ClearsHeard market f m s lost (lost_numbered (feed_of market f) s.act (act_numbered market m s.act s.is c.1) (clears_heard f a.0 c.0))
 
 -- ---- what is given of the bytes is given of the feed
 kept_registered : (x : Option Symbol) → IsSome (kept_if x) → IsSome x
