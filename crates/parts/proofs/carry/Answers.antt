@@ -16,10 +16,10 @@ returns-then-buffer-to c = let a = c.args in
 
 pub loop-i-preserved : goal.loop-i-preserved
 loop-i-preserved c = let a = c.args in (
-      omega arith,
-      length-set c.loop-i.buffer c.loop-i.i (get_or c.loop-i.buffer (a.from + c.loop-i.i) 0) ∙ c.loop-i.invariant.1,
-      rw c.loop-i.invariant.2 (moved_next a.buffer.now a.from a.to c.if-buffer-to.false c.loop-i.i (omega arith)),
-    )
+  omega arith,
+  length-set c.loop-i.buffer c.loop-i.i (get_or c.loop-i.buffer (a.from + c.loop-i.i) 0) ∙ c.loop-i.invariant.1,
+  rw c.loop-i.invariant.2 (moved_next a.buffer.now a.from a.to c.if-buffer-to.false c.loop-i.i (omega arith)),
+)
 
 pub returns : goal.returns
 returns c = let a = c.args in

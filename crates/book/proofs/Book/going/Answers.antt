@@ -45,9 +45,9 @@ loop-size-preserved-in-Nothing c =
     let l = c.loop-size in
     let b = book_of l.places l.seats l.orders l.numbers l.lives l.spans l.trades l.tickets l.crosses l.stubs l.kept in
     let plans = λ (w : Wf b).
-        c.planned-plan.ensures.plans b _ c.hear-h.result w refl c.change_of-change.ensures
-        (c.turn_in-t.ensures b _ c.hear-h.ensures (sits b w c.hear-h.result _ c.seat_of-k.ensures) (λ h. ap (λ (n : ℕ). get_or l.places n nowhere) (c.spot-seat.ensures ∙ own_seat _ h)))
-        (record { lies = ap (λ (n : ℕ). get_or l.orders n no_order) c.spot-found.ensures; found = λ h. c.looked-i.ensures l.orders h (searchable b.orders _ h w.orders) }) in
+    c.planned-plan.ensures.plans b _ c.hear-h.result w refl c.change_of-change.ensures
+    (c.turn_in-t.ensures b _ c.hear-h.ensures (sits b w c.hear-h.result _ c.seat_of-k.ensures) (λ h. ap (λ (n : ℕ). get_or l.places n nowhere) (c.spot-seat.ensures ∙ own_seat _ h)))
+    (record { lies = ap (λ (n : ℕ). get_or l.orders n no_order) c.spot-found.ensures; found = λ h. c.looked-i.ensures l.orders h (searchable b.orders _ h w.orders) }) in
     turn_on _ _ _ _ _ _ _ _ _ c.loop-size.invariant c.in-Size.size ((sym c.reach_at-reach.ensures ∙ ap reached_as c.in-Size.is)) c.decode-d.result _ c.market_of-market.ensures c.decode-d.ensures.reads (record { book = _; answer = _ })
     (nothing_steps b _ _ (λ w. rw c.in-Nothing.is at ((let l = c.loop-size in c.planned-plan.ensures.plans b _ c.hear-h.result w refl c.change_of-change.ensures (c.turn_in-t.ensures b _ c.hear-h.ensures (sits b w c.hear-h.result _ c.seat_of-k.ensures) (λ h. ap (λ (n : ℕ). get_or l.places n nowhere) (c.spot-seat.ensures ∙ own_seat _ h))) (record { lies = ap (λ (n : ℕ). get_or l.orders n no_order) c.spot-found.ensures; found = λ h. c.looked-i.ensures l.orders h (searchable b.orders _ h w.orders) })))))
     c.if-most-count.false _ c.note.ensures
@@ -72,9 +72,9 @@ loop-size-preserved-then-brings_nothing c =
     let l = c.loop-size in
     let b = book_of l.places l.seats l.orders l.numbers l.lives l.spans l.trades l.tickets l.crosses l.stubs l.kept in
     let plans = λ (w : Wf b).
-        c.planned-plan.ensures.plans b _ c.hear-h.result w refl c.change_of-change.ensures
-        (c.turn_in-t.ensures b _ c.hear-h.ensures (sits b w c.hear-h.result _ c.seat_of-k.ensures) (λ h. ap (λ (n : ℕ). get_or l.places n nowhere) (c.spot-seat.ensures ∙ own_seat _ h)))
-        (record { lies = ap (λ (n : ℕ). get_or l.orders n no_order) c.spot-found.ensures; found = λ h. c.looked-i.ensures l.orders h (searchable b.orders _ h w.orders) }) in
+    c.planned-plan.ensures.plans b _ c.hear-h.result w refl c.change_of-change.ensures
+    (c.turn_in-t.ensures b _ c.hear-h.ensures (sits b w c.hear-h.result _ c.seat_of-k.ensures) (λ h. ap (λ (n : ℕ). get_or l.places n nowhere) (c.spot-seat.ensures ∙ own_seat _ h)))
+    (record { lies = ap (λ (n : ℕ). get_or l.orders n no_order) c.spot-found.ensures; found = λ h. c.looked-i.ensures l.orders h (searchable b.orders _ h w.orders) }) in
     turn_on _ _ _ _ _ _ _ _ _ c.loop-size.invariant c.in-Size.size ((sym c.reach_at-reach.ensures ∙ ap reached_as c.in-Size.is)) c.decode-d.result _ c.market_of-market.ensures c.decode-d.ensures.reads (record { book = _; answer = 0 })
     (lands_step b _ c.hear-h.result c.seat_of-k.result _ _ _ _ (record { own = c.spot-seat.ensures; lies = refl; counted = c.counted-next.ensures }) _ c.no_order-none.ensures _ _ c.mirror.ensures
     (λ w. rw c.in-Lands.is at ((let l = c.loop-size in c.planned-plan.ensures.plans b _ c.hear-h.result w refl c.change_of-change.ensures (c.turn_in-t.ensures b _ c.hear-h.ensures (sits b w c.hear-h.result _ c.seat_of-k.ensures) (λ h. ap (λ (n : ℕ). get_or l.places n nowhere) (c.spot-seat.ensures ∙ own_seat _ h))) (record { lies = ap (λ (n : ℕ). get_or l.orders n no_order) c.spot-found.ensures; found = λ h. c.looked-i.ensures l.orders h (searchable b.orders _ h w.orders) }))))
@@ -137,9 +137,9 @@ loop-size-preserved-in-Lands c =
     let l = c.loop-size in
     let b = book_of l.places l.seats l.orders l.numbers l.lives l.spans l.trades l.tickets l.crosses l.stubs l.kept in
     let plans = λ (w : Wf b).
-        c.planned-plan.ensures.plans b _ c.hear-h.result w refl c.change_of-change.ensures
-        (c.turn_in-t.ensures b _ c.hear-h.ensures (sits b w c.hear-h.result _ c.seat_of-k.ensures) (λ h. ap (λ (n : ℕ). get_or l.places n nowhere) (c.spot-seat.ensures ∙ own_seat _ h)))
-        (record { lies = ap (λ (n : ℕ). get_or l.orders n no_order) c.spot-found.ensures; found = λ h. c.looked-i.ensures l.orders h (searchable b.orders _ h w.orders) }) in
+    c.planned-plan.ensures.plans b _ c.hear-h.result w refl c.change_of-change.ensures
+    (c.turn_in-t.ensures b _ c.hear-h.ensures (sits b w c.hear-h.result _ c.seat_of-k.ensures) (λ h. ap (λ (n : ℕ). get_or l.places n nowhere) (c.spot-seat.ensures ∙ own_seat _ h)))
+    (record { lies = ap (λ (n : ℕ). get_or l.orders n no_order) c.spot-found.ensures; found = λ h. c.looked-i.ensures l.orders h (searchable b.orders _ h w.orders) }) in
     turn_on _ _ _ _ _ _ _ _ _ c.loop-size.invariant c.in-Size.size ((sym c.reach_at-reach.ensures ∙ ap reached_as c.in-Size.is)) c.decode-d.result _ c.market_of-market.ensures c.decode-d.ensures.reads (record { book = _; answer = 0 })
     (stores_step b _ c.hear-h.result c.seat_of-k.result _ c.decided-r.result.lost _ _ (record { own = c.spot-seat.ensures; lies = refl; counted = c.counted-next-in-Lands.ensures }) _ c.no_order-none.ensures _ _ c.mirror.ensures
     (λ w. rw c.in-Lands.is at ((let l = c.loop-size in c.planned-plan.ensures.plans b _ c.hear-h.result w refl c.change_of-change.ensures (c.turn_in-t.ensures b _ c.hear-h.ensures (sits b w c.hear-h.result _ c.seat_of-k.ensures) (λ h. ap (λ (n : ℕ). get_or l.places n nowhere) (c.spot-seat.ensures ∙ own_seat _ h))) (record { lies = ap (λ (n : ℕ). get_or l.orders n no_order) c.spot-found.ensures; found = λ h. c.looked-i.ensures l.orders h (searchable b.orders _ h w.orders) }))))
@@ -162,7 +162,7 @@ returns c =
     let that = c.book_of-book-2.ensures in
     let back = c.noting.ensures in
     elim c.match-reach.branch [
-      in-Short w ↦ turn_stops _ _ _ _ _ _ _ _ _ inv _ _ _ that back 1 (sym reaching ∙ ap reached_as w.in-Short.is) w.stop-is
-    | in-Small w ↦ turn_stops _ _ _ _ _ _ _ _ _ inv _ _ _ that back 2 (sym reaching ∙ ap reached_as w.in-Small.is) w.stop-is
-    | in-Size+then-most-count w ↦ turn_full _ _ _ _ _ _ _ _ _ inv _ _ _ that back _ (sym reaching ∙ ap reached_as w.in-Size.is) w.if-most-count.true w.stop-is
+      | in-Short w ↦ turn_stops _ _ _ _ _ _ _ _ _ inv _ _ _ that back 1 (sym reaching ∙ ap reached_as w.in-Short.is) w.stop-is
+      | in-Small w ↦ turn_stops _ _ _ _ _ _ _ _ _ inv _ _ _ that back 2 (sym reaching ∙ ap reached_as w.in-Small.is) w.stop-is
+      | in-Size+then-most-count w ↦ turn_full _ _ _ _ _ _ _ _ _ inv _ _ _ that back _ (sym reaching ∙ ap reached_as w.in-Size.is) w.if-most-count.true w.stop-is
     ]

@@ -18,6 +18,9 @@ turned b z h k c e t a l Way.Lands p = (t, rw (sym e) p)
 turned b z h k c e t a l Way.Steps p = tt
 
 pub returns-in-Due : goal.returns-in-Due
-returns-in-Due c = record { plans = λ b z h w same e turn looked.
+returns-in-Due c = record {
+  plans = λ b z h w same e turn looked.
       let t = (rw c.in-Due.is at turn) in
-      turned b z h _ _ e t _ _ c.landed.result.way (c.landed.ensures.plans b (change_as c.args.change) w (judges b w _ _ _ _ same _ _ _ t.awaits.place looked _ c.judged-v.ensures)); within = c.landed.ensures.within }
+      turned b z h _ _ e t _ _ c.landed.result.way (c.landed.ensures.plans b (change_as c.args.change) w (judges b w _ _ _ _ same _ _ _ t.awaits.place looked _ c.judged-v.ensures));
+  within = c.landed.ensures.within;
+}

@@ -20,14 +20,18 @@ use Rattle.symbols.proofs.registering.seat.Goals as goal
 module _ (t : List ℕ) (x : ℕ) (eight : length t ≡ symbols) where
   in_list : outside 0 symbols (length t) ≡ false
   in_list = not_outside 0 symbols (length t) (omega arith) (omega (arith, eight))
+
   ends : Back t 0 symbols x symbols symbols
   ends = back_end t 0 symbols x in_list
+
   hits : (j : ℕ) → 0 < j → j ≤ symbols → get_or t (j - 1) 0 ≡ x → Back t 0 symbols x (j - 1) (j - 1)
   hits j h g e = back_hit t 0 symbols x in_list (j - 1) (omega (arith, h, g)) (rw zero-add (eq-eqb _ x e))
+
   misses : (j r : ℕ) → 0 < j → j ≤ symbols → (get_or t (j - 1) 0 ≡ x → ⊥) → Back t 0 symbols x j r → Back t 0 symbols x (j - 1) r
   misses j r h g ne b =
       let next : j ≡ j - 1 + 1 = omega (arith, h) in
       back_miss t 0 symbols x in_list (j - 1) r (omega (arith, h, g)) (rw zero-add (ne_eqb _ x ne)) (subst (λ (m : ℕ). Back t 0 symbols x m r) next b)
+
   comes-first : (j r : ℕ) → j ≤ 0 → Back t 0 symbols x j r → r ≡ first_in t 0 symbols x
   comes-first j r h b = let e : j ≡ 0 = omega (arith, h) in back_first t 0 symbols x in_list r (subst (λ (m : ℕ). Back t 0 symbols x m r) e b)
 

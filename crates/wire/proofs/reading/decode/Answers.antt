@@ -34,4 +34,3 @@ pub returns-in-Size : goal.returns-in-Size
 returns-in-Size c =
     let e = c.decode_typed.ensures ∙ sym (read_reached_lem c.args.market c.args.s.now c.in-Size.size (sym c.first_reach-found.ensures ∙ ap reached_as c.in-Size.is)) in
     record { reads = e; writes_back = writes c.args.market c.args.s.now (λ i. omega (arith, c.type_inv.s i)) e }
-

@@ -40,7 +40,7 @@ returns-in-At c =
     let a = c.args in
     let l = c.in-Known.l in
     let e = sym (write_bad_field a.market a.m a.plain a.out.now l (ap shape_of (sym c.type_of-number.ensures) ∙ sym c.shape_of-shape.ensures ∙ c.in-Known.is) _
-        (ap (λ (f : Fields). fault_of a.market l f (array_of l a.plain)) (sym c.fields_of-f.ensures.0) ∙ sym c.fault_of-fault.ensures ∙ c.in-At.is)) in
+    (ap (λ (f : Fields). fault_of a.market l f (array_of l a.plain)) (sym c.fields_of-f.ensures.0) ∙ sym c.fault_of-fault.ensures ∙ c.in-At.is)) in
     record { writes = e; reads_back = reads a.market a.m a.plain a.out.now (search rules) c.fields_of-f.ensures.1 e }
 
 pub returns-in-Nothing : goal.returns-in-Nothing
@@ -48,7 +48,7 @@ returns-in-Nothing c =
     let a = c.args in
     let l = c.in-Known.l in
     let e = c.encode_good.ensures
-        ∙ (λ j. write_sized (ltb (length a.out.now) l.size) l.size (image_of l (c.type_of-number.ensures j) (c.fields_of-f.ensures.0 j) a.plain) a.out.now)
-        ∙ sym (write_good a.market a.m a.plain a.out.now l (ap shape_of (sym c.type_of-number.ensures) ∙ sym c.shape_of-shape.ensures ∙ c.in-Known.is)
-            (ap (λ (f : Fields). fault_of a.market l f (array_of l a.plain)) (sym c.fields_of-f.ensures.0) ∙ sym c.fault_of-fault.ensures ∙ c.in-Nothing.is)) in
+    ∙ (λ j. write_sized (ltb (length a.out.now) l.size) l.size (image_of l (c.type_of-number.ensures j) (c.fields_of-f.ensures.0 j) a.plain) a.out.now)
+    ∙ sym (write_good a.market a.m a.plain a.out.now l (ap shape_of (sym c.type_of-number.ensures) ∙ sym c.shape_of-shape.ensures ∙ c.in-Known.is)
+    (ap (λ (f : Fields). fault_of a.market l f (array_of l a.plain)) (sym c.fields_of-f.ensures.0) ∙ sym c.fault_of-fault.ensures ∙ c.in-Nothing.is)) in
     record { writes = e; reads_back = reads a.market a.m a.plain a.out.now (search rules) c.fields_of-f.ensures.1 e }
