@@ -1,5 +1,5 @@
 -- A call on a lent book keeps the promise of the call by value, and a promise leaves one outcome.
-use mathlib.Core.Path.{◌≡◌, refl}
+use mathlib.Core.Path.{refl}
 use Rattle.book.specs.Reached.{Reached, applied, ran}
 use Rattle.book.specs.declared.Book.{Book}
 use Rattle.book.proofs.Reaching.{reached_wf, alike}

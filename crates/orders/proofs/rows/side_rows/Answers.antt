@@ -7,7 +7,6 @@ use lib.ListN.{length, length-replicate, length-set}
 use Rattle.orders.specs.Rows.{levels, no_row, row_after}
 use Rattle.orders.proofs.SideRows.{filled_none, filled_next, filled_short, filled_all}
 use Rattle.orders.specs.declared.rows.LevelRow.{LevelRow}
-use mathlib.Core.Bool.{not}
 use Rattle.orders.proofs.rows.side_rows.Goals as goal
 
 pub loop-i-init : goal.loop-i-init

@@ -1,5 +1,5 @@
 -- What is left of the laying comes to all of it (`Rest`): each batch is run and laid, and it ends where the walk stops or the buffer is full.
-use Rattle.std.proofs.Common.{◌≡◌, ℕ, ap, sym, refl, ◌∙◌, arith, rules}
+use Rattle.std.proofs.Common.{◌≡◌, ap, sym, refl, ◌∙◌, arith, rules}
 use Rattle.symbols.specs.State.{itself, found_in, entries}
 use Rattle.symbols.specs.Registering.{told_of}
 use Rattle.symbols.specs.declared.Symbols.{Symbols}

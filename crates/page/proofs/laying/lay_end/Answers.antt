@@ -5,7 +5,7 @@ use Rattle.book.specs.declared.quote.Quote.{Quote}
 use Rattle.book.specs.Registering.{told_in}
 use Rattle.book.specs.Quote.{quote_of}
 use Rattle.book.specs.State.{view}
-use Rattle.columns.specs.Held.{room, held}
+use Rattle.columns.specs.Held.{room}
 use Rattle.columns.proofs.Holding.{held_within}
 use Rattle.page.specs.Printing.{laid}
 use Rattle.symbols.specs.declared.registering.Listing.{Listing}

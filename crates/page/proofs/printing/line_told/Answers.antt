@@ -1,6 +1,5 @@
 -- By the type and the first bad field: each refusal is one law of printing, and what passes both has its line printed.
-use Rattle.std.proofs.Common.{false, sym, ap, ◌∙◌}
-use Rattle.wire.specs.Message.{type_of}
+use Rattle.std.proofs.Common.{sym, ap, ◌∙◌}
 use Rattle.wire.proofs.OneOutcome.{one_fault}
 use Rattle.page.specs.Printing.{has_no_line}
 use Rattle.page.proofs.Cases.{line_no_type, line_bad_field, line_fields_good}

@@ -2,7 +2,6 @@
 use Rattle.std.proofs.Common.{ℕ, [], sym, ap, ◌∙◌, arith, rules}
 use borrow.Enum.Refused.{opened}
 use Rattle.wire.specs.Reading.{Read, answered_as}
-use Rattle.wire.specs.Message.{type_of}
 use Rattle.wire.specs.declared.Answer.{Answer}
 use Rattle.book.specs.Registering.{told_in}
 use Rattle.symbols.specs.declared.registering.Listing.{Listing}

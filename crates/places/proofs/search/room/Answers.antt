@@ -1,5 +1,5 @@
 -- The places passed are live, so an empty one is room and the way round says that there is none.
-use mathlib.Core.Bool.{not, false}
+use mathlib.Core.Bool.{not}
 use mathlib.Core.Path.{ap}
 use native.Mathlib.Omega.{arith}
 use Rattle.places.proofs.Rounds.{leaves_all, leaves_more}

@@ -1,8 +1,8 @@
 -- The tests come in the order of the checks, so each return is one law of them.
-use mathlib.Core.Bool.{Bool, false}
+use mathlib.Core.Bool.{Bool}
 use mathlib.Core.Path.{sym, ap, ◌∙◌}
 use borrow.Author.Tests.{le-leb, lt-leb, lt-ltb, le-ltb}
-use Rattle.wire.specs.Fields.{array_of, nanos_each, volume_bad, side_bad, conditions_at, first_bad}
+use Rattle.wire.specs.Fields.{array_of, nanos_each, conditions_at, first_bad}
 use Rattle.wire.proofs.Checks.{nanos_first, volume_first, flag_first, side_first, conditions_first, own_conditions}
 use Rattle.wire.proofs.fields.fault_of.Goals as goal
 

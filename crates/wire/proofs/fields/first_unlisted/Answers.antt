@@ -1,5 +1,5 @@
 -- The four conditions are tested in their order, so each return is one law of them.
-use mathlib.Core.Bool.{false, not}
+use mathlib.Core.Bool.{not}
 use mathlib.Core.Path.{sym, ap, ◌∙◌}
 use Rattle.wire.proofs.Checks.{first_condition, second_condition, third_condition, fourth_condition, none_unlisted}
 use Rattle.wire.proofs.fields.first_unlisted.Goals as goal

@@ -6,7 +6,6 @@ use mathlib.Core.List.{List}
 use Prim.Native.Nat.{ℕ, ◌<◌}
 use lib.ListN.{get_or}
 use Rattle.markets.specs.declared.Market.{Market}
-use Rattle.wire.specs.Outcome.{refused}
 use Rattle.wire.specs.Reading.{Read, read_of, reached_as, decoded_as}
 use Rattle.wire.specs.RoundTrip.{WritesBack}
 use Rattle.wire.proofs.RoundTrip.{write_what_was_read}
