@@ -11,6 +11,7 @@ use Rattle.book.specs.Promises.{Obeys}
 use Rattle.book.specs.Walk.{offset_by, move_of, run_of}
 use Rattle.book.specs.Reached.{Reached, new, registered, applied, ran, Alike}
 use Rattle.book.specs.declared.Book.{Book}
+use Rattle.book.specs.declared.depth.Depth.{Depth}
 
 pub reached_wf : {b : Book} → Reached b → Wf b
 reached_wf (new f) = f.wf
@@ -29,7 +30,10 @@ alike a b u v e = record {
   running = λ s at q r p m. let z = same_next _ _ _ _ _ _ (ap (λ (x : View). run_of x s at) e) (p.obeys u) (m.obeys v) in (z.0, p.at ∙ sym m.at, z.1);
   telling = λ index q r p t. p ∙ ap (told_in index) e ∙ sym t;
   quoting = λ index q r p s. p ∙ ap (quote_of index) e ∙ sym s;
-  levelling = λ index q r p s. p ∙ ap (depth_of index) e ∙ sym s;
   summing = λ index q r p s. p ∙ ap (volume_of index) e ∙ sym s;
   market = λ q r p s. p ∙ ap (λ (x : View). x.market) e ∙ sym s;
 }
+
+-- and a depth is the same of equal views
+pub depths_alike : (a b : Book) → view a ≡ view b → (index : ℕ) (q r : Depth) → q ≡ depth_of index (view a) → r ≡ depth_of index (view b) → q ≡ r
+depths_alike a b e index q r p s = p ∙ ap (depth_of index) e ∙ sym s

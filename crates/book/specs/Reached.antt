@@ -4,12 +4,10 @@ use Rattle.markets.specs.declared.Market.{Market}
 use Rattle.book.specs.State.{view, Fresh}
 use Rattle.book.specs.Registering.{register_of, told_in}
 use Rattle.book.specs.Quote.{quote_of, volume_of}
-use Rattle.book.specs.Depth.{depth_of}
 use Rattle.book.specs.Promises.{Steps}
 use Rattle.book.specs.Walk.{Moves, Runs}
 use Rattle.book.specs.declared.Book.{Book}
 use Rattle.book.specs.declared.Done.{Done}
-use Rattle.book.specs.declared.depth.Depth.{Depth}
 use Rattle.book.specs.declared.walk.Moved.{Moved}
 use Rattle.book.specs.declared.walk.Ran.{Ran}
 use Rattle.symbols.specs.declared.registering.Listing.{Listing}
@@ -32,6 +30,5 @@ pub record Alike (a b : Book) : Type 0 where
       → (q.answer ≡ r.answer) × (q.at ≡ r.at) × (view q.book ≡ view r.book)
   pub telling : (index : ℕ) (q r : Listing) → q ≡ told_in index (view a) → r ≡ told_in index (view b) → q ≡ r
   pub quoting : (index : ℕ) (q r : Quote) → q ≡ quote_of index (view a) → r ≡ quote_of index (view b) → q ≡ r
-  pub levelling : (index : ℕ) (q r : Depth) → q ≡ depth_of index (view a) → r ≡ depth_of index (view b) → q ≡ r
   pub summing : (index : ℕ) (q r : Volume) → q ≡ volume_of index (view a) → r ≡ volume_of index (view b) → q ≡ r
   pub market : (q r : Market) → q ≡ (view a).market → r ≡ (view b).market → q ≡ r

@@ -46,15 +46,13 @@ use Rattle.book.proofs.Positions.{position_is_sum, stops_there}
 use Rattle.book.proofs.Reaching.{reached_wf, alike}
 use Rattle.book.proofs.Refusals.{stale_view}
 use Rattle.demands.specs.Reader.{Orders, Effect}
-use Rattle.page.specs.Printing.{laid, told}
+use Rattle.page.specs.Printing.{told}
 use Rattle.page.specs.Printout.{closing}
-use Rattle.page.specs.Levels.{levels_text}
 use Rattle.page.proofs.Cases.{bytes_beyond_stay, laid_beyond}
 use Rattle.page.proofs.Answers.{laid_answers, line_answers, line_locates, laid_refused, line_refused, laying_answers, only_late, laying_moves}
-use Rattle.demands.specs.Demand1.{OneOf, Answers, WireNumbers, RoomNumbers, PageNumbers, Printing, Pages, Rooms, BookNumbers, BadThere, Offsets, Buffers, LeavesStale, Refusals, States, Questions, TooFew, no_size, cut, Stays, Passes, Positions, Moving, Demand1}
+use Rattle.demands.specs.Demand1.{OneOf, Answers, WireNumbers, RoomNumbers, PageNumbers, Pages, Rooms, BookNumbers, BadThere, Offsets, Buffers, LeavesStale, Refusals, States, Questions, TooFew, no_size, cut, Stays, Passes, Positions, Moving, Demand1}
 use Rattle.demands.specs.Demand3.{StandsAt}
 use Rattle.demands.proofs.Demand3.{stands_acts}
-use Rattle.demands.proofs.Depth.{depth_answers, depth_refused}
 
 -- ---- the numbers of `wire`
 reach_numbers : (s : List ℕ) → OneOf (0 ∷ 1 ∷ 2 ∷ []) (number_of (reach_of s))
@@ -355,7 +353,6 @@ module _ {b : Book} (p : Reached b) where
     applying = λ {s = s} {at = at} m. record { one_of = rw (answered p m) (move_numbers (view b) s at); by_rule = answered p m };
     running = λ {s = s} {at = at} m. record { one_of = rw m.answer (reach_refused (OneOf (1 ∷ 2 ∷ [])) refl refl (drop (walk_of s at).at s) (walk_of s at).answer (stops_there s at)); by_rule = m.answer };
     quoting = quote_answers (view b);
-    levelling = depth_answers (view b);
     summing = volume_answers (view b);
     telling = λ index t. rw t (told_answers (view b) index);
   }
@@ -381,11 +378,7 @@ module _ {b : Book} (p : Reached b) where
     printing = λ m plain sequence second out. line_answers (view b).market (told b m) m plain sequence second out;
     laying = λ x. laying_answers (reached_wf p) x;
     ending = λ index answer out. laid_answers (closing (view b) index answer) out;
-    text_of_levels = λ index out. laid_answers (levels_text (view b) index) out;
   }
-
-  laid_printing : (text out : List ℕ) → Printing (laid text out) out
-  laid_printing text out = record { refused_untouched = λ n e. (laid_refused text out n e, ap count_of e); beyond = laid_beyond text out }
 
   pages : Pages b
   pages = record {
@@ -393,8 +386,10 @@ module _ {b : Book} (p : Reached b) where
       refused_untouched = λ n e. (line_refused (view b).market (told b m) m plain sequence second out n e, ap count_of e);
       beyond = bytes_beyond_stay (view b).market (told b m) m plain sequence second out;
     };
-    ending = λ index answer out. laid_printing (closing (view b) index answer) out;
-    text_of_levels = λ index out. laid_printing (levels_text (view b) index) out;
+    ending = λ index answer out. record {
+      refused_untouched = λ n e. (laid_refused (closing (view b) index answer) out n e, ap count_of e);
+      beyond = laid_beyond (closing (view b) index answer) out;
+    };
     late = λ x e. x.late (only_late (reached_wf p) x e);
     beyond = λ x. x.beyond;
     moves_on = λ x. laying_moves (reached_wf p) x;
@@ -419,7 +414,6 @@ module _ {b : Book} (p : Reached b) where
   unfolding told_of
   questions = record {
     quoting = quote_refused (view b);
-    levelling = depth_refused (view b);
     summing = volume_refused (view b);
     telling = λ index t n. t ∙ told_refused (view b) index (λ z. n (ap (λ (x : Listing). x.answer) t ∙ z));
   }

@@ -6,27 +6,23 @@ use Prim.Native.Nat.{ℕ}
 use Rattle.wire.specs.Outcome.{Outcome, done}
 use Rattle.wire.specs.Reading.{read_of}
 use Rattle.wire.specs.declared.Message.{Message}
-use Rattle.feed.specs.Reader.{Act, clearing, Showing, refused, shown, showing_of, quote}
-use Rattle.feed.specs.Feed.{Feed, heard, ◌▷◌, first, second}
+use Rattle.feed.specs.Reader.{Act, quote}
+use Rattle.feed.specs.Feed.{heard, ◌▷◌, first, second}
 use Rattle.feed.specs.Feed as feed-given
-use Rattle.feed.specs.Book.{book_of}
 use Rattle.feed.specs.Demand3 as feed
-use Rattle.feed.specs.Demand3.{NoneLost, AfterLoss, UntilClear, Since, NotLost}
 use Rattle.feed.proofs.Demand3.{demand_3}
 use Rattle.book.specs.State.{View, Next, view, Wf}
 use Rattle.book.specs.Step.{act_on, meant, step_on, step_of, step_in}
 use Rattle.book.specs.Quote.{quote_of}
-use Rattle.book.specs.Depth.{depth_of}
 use Rattle.book.specs.Walk.{AllComplete, move_by, move_of, steps_of, run_of, Moves}
 use Rattle.book.specs.declared.Book.{Book}
 use Rattle.book.specs.declared.walk.Moved.{Moved}
 use Rattle.book.proofs.Walking.{steps_join}
 use Rattle.book.proofs.OneMarket.{steps_market}
-use Rattle.demands.specs.Reader.{Sides, pillar, Effect, kept_in, Registered, as_quote, as_depth}
-use Rattle.demands.specs.ByteFeed.{ByteFeed, hears, sent, delivered, Moment, IsDone, Applied, goes_on, feed_of}
-use Rattle.demands.specs.Demand3.{Began, StandsAt, Reads, nothing, applies, refuses, runs, RunsOver, ran, Given, AnswersZero, nothing_yet, to_heard, to_lost, AnsweredAs, Now, Demand3}
-use Rattle.demands.specs.Depth.{Demand3OfDepth}
-use Rattle.demands.proofs.Reader.{reader, quotes_kept, depths_kept}
+use Rattle.demands.specs.Reader.{pillar, Effect, as_quote}
+use Rattle.demands.specs.ByteFeed.{ByteFeed, hears, sent, delivered, IsDone, Applied, goes_on, feed_of}
+use Rattle.demands.specs.Demand3.{Began, StandsAt, Reads, nothing, applies, refuses, runs, RunsOver, ran, Given, AnswersZero, nothing_yet, to_heard, to_lost, AnsweredAs, Demand3, quote_in}
+use Rattle.demands.proofs.Reader.{reader, quotes_kept}
 use Rattle.demands.proofs.Starting.{began_wf}
 use Rattle.demands.proofs.Laying.{sent_complete, delivered_complete, walks_messages}
 use Rattle.demands.proofs.Moments.{given_at}
@@ -74,14 +70,21 @@ Faithful Takes = (b : Book) (ms : List (List ℕ)) (r : Book) → Wf b → AllCo
 
 module _ (Takes : Book → List (List ℕ) → Book → Type 0) (faithful : Faithful Takes) (b c : Book) where
   module _ {f : ByteFeed} (g : Given b c f) where
-    first_view : {r : Book} → Takes b (sent f) r → view r ≡ first pillar reader (view b) (feed_of (view b).market f)
-    first_view {r = r} t = (faithful b (sent f) r (began_wf g.first_began) (sent_complete f g.complete) t).seen ∙ first_steps (view b) f g.applied
+    first-quotes : {r : Book} → Takes b (sent f) r → (index : ℕ) → quote_in r index ≡ as_quote (quote pillar reader (first pillar reader (view b) (feed_of (view b).market f)) index)
+    first-quotes {r = r} t index =
+        ap (quote_of index) ((faithful b (sent f) r (began_wf g.first_began) (sent_complete f g.complete) t).seen ∙ first_steps (view b) f g.applied)
+        ∙ quotes_kept (first pillar reader (view b) (feed_of (view b).market f)) index
 
     second_after : {r : Book} → Takes c (delivered f) r → After c (delivered f) r
     second_after {r = r} t = faithful c (delivered f) r (began_wf g.second_began) (delivered_complete f g.complete) t
 
     second_view : {r : Book} → Takes c (delivered f) r → view r ≡ second pillar reader (view c) (feed_of (view b).market f)
     second_view t = (second_after t).seen ∙ second_steps (view b) (view c) (sym g.same_market) f g.applied
+
+    second-quotes : {r : Book} → Takes c (delivered f) r → (index : ℕ) → quote_in r index ≡ as_quote (quote pillar reader (second pillar reader (view c) (feed_of (view b).market f)) index)
+    second-quotes {r = r} t index =
+        ap (quote_of index) (second_view t)
+        ∙ quotes_kept (second pillar reader (view c) (feed_of (view b).market f)) index
 
     answers_next : {d : Book} → Takes c (delivered f) d → {s : List ℕ} {at : ℕ} {m : List ℕ} {r : Moved} → Given b c (hears f m) → StandsAt s at m → Moves d s at r → AnsweredAs (view b).market f m r.answer
     unfolding feed_of
@@ -100,58 +103,20 @@ module _ (Takes : Book → List (List ℕ) → Book → Type 0) (faithful : Fait
   abbrev of_views : feed.Demand3 pillar reader (view b) (view c)
   of_views = demand_3 pillar reader (view b) (view c)
 
-  -- ---- a question that is answered from what is kept of a symbol: a quote, and a depth
-  module _ {Q : Type 0} (ask : ℕ → View → Q) (shows-as : Showing Sides → Q) (from-kept : (v : View) (index : ℕ) → ask index v ≡ shows-as (showing_of pillar (kept_in v index))) where
-    record Asked (f : ByteFeed) (first second : Book) : Type 0 where
-      pub nothing_lost : (index : ℕ) → NoneLost index (feed_of (view b).market f) → ask index (view second) ≡ ask index (view first)
-      pub of_the_book : (index : ℕ) → Registered index (view b) → NoneLost index (feed_of (view b).market f) → ask index (view second) ≡ shows-as (shown (pillar.shows (book_of pillar index (feed_of (view b).market f))))
-      pub first_of_the_book : (index : ℕ) → Registered index (view b) → ask index (view first) ≡ shows-as (shown (pillar.shows (book_of pillar index (feed_of (view b).market f))))
-      pub after_a_loss : (index : ℕ) {h : ByteFeed} {before : Book} → Moment h f → Takes b (sent h) before → AfterLoss index (feed_of (view b).market h) (feed_of (view b).market f) → ask index (view second) ≡ ask index (view before)
-      pub refused_until_a_clear : (index : ℕ) → UntilClear index (feed_of (view b).market f) → ask index (view second) ≡ shows-as (refused 8)
-      pub from_that_clear_on : (index : ℕ) {next : ℕ} {h : Feed Effect} → Since (NotLost index) (h ▷ heard (clearing index next)) (feed_of (view b).market f) → ask index (view second) ≡ ask index (view first)
-
-    first_asked : {f : ByteFeed} → Given b c f → {r : Book} → Takes b (sent f) r → (index : ℕ) → ask index (view r) ≡ shows-as (quote pillar reader (first pillar reader (view b) (feed_of (view b).market f)) index)
-    first_asked {f = f} g t index = ap (ask index) (first_view g t) ∙ from-kept (first pillar reader (view b) (feed_of (view b).market f)) index
-
-    asked : (f : ByteFeed) (first second : Book) → Now Takes b c f first second → Asked f first second
-    asked f _ _ n =
-        let given = given_feed b c f n.given in
-        let now = first_asked n.given n.all in
-        let hearing : (index : ℕ) → _ = λ index. ap (ask index) (second_view n.given n.rest) ∙ from-kept (second pillar reader (view c) (feed_of (view b).market f)) index in
-        record {
-          nothing_lost = λ index l. hearing index ∙ ap shows-as (of_views.nothing_lost index given l) ∙ sym (now index);
-          of_the_book = λ index y l. hearing index ∙ ap shows-as (of_views.quotes_the_book index given (is_registered (view b) index y) l);
-          first_of_the_book = λ index y. now index ∙ ap shows-as (of_views.first_quotes_the_book index given (is_registered (view b) index y));
-          after_a_loss = λ index m before l. hearing index ∙ ap shows-as (of_views.after_a_loss index given l) ∙ sym (first_asked (given_at b c m n.given) before index);
-          refused_until_a_clear = λ index u. hearing index ∙ ap shows-as (of_views.refused_until_a_clear index given u);
-          from_that_clear_on = λ index s. hearing index ∙ ap shows-as (of_views.from_that_clear_on index given s) ∙ sym (now index);
-        }
-
   pub demanded : Demand3 Takes b c
   unfolding as_quote
-  demanded f first second n =
-      let a = asked quote_of as_quote quotes_kept f first second n in
+  demanded f _ _ n =
+      let given = given_feed b c f n.given in
+      let now = first-quotes n.given n.all in
+      let hearing = second-quotes n.given n.rest in
       record {
-        nothing_lost = a.nothing_lost;
-        quotes_the_book = a.of_the_book;
-        first_quotes_the_book = a.first_of_the_book;
-        after_a_loss = a.after_a_loss;
-        refused_until_a_clear = a.refused_until_a_clear;
-        from_that_clear_on = a.from_that_clear_on;
+        nothing_lost = λ index l. hearing index ∙ ap as_quote (of_views.nothing_lost index given l) ∙ sym (now index);
+        quotes_the_book = λ index y l. hearing index ∙ ap as_quote (of_views.quotes_the_book index given (is_registered (view b) index y) l);
+        first_quotes_the_book = λ index y. now index ∙ ap as_quote (of_views.first_quotes_the_book index given (is_registered (view b) index y));
+        after_a_loss = λ index m before l. hearing index ∙ ap as_quote (of_views.after_a_loss index given l) ∙ sym (first-quotes (given_at b c m n.given) before index);
+        refused_until_a_clear = λ index u. hearing index ∙ ap as_quote (of_views.refused_until_a_clear index given u);
+        from_that_clear_on = λ index s. hearing index ∙ ap as_quote (of_views.from_that_clear_on index given s) ∙ sym (now index);
         answers = answers_next n.given n.rest;
-      }
-
-  pub demanded_of_depth : Demand3OfDepth Takes b c
-  unfolding as_depth
-  demanded_of_depth f first second n =
-      let a = asked depth_of as_depth depths_kept f first second n in
-      record {
-        nothing_lost = a.nothing_lost;
-        shows_the_book = a.of_the_book;
-        first_shows_the_book = a.first_of_the_book;
-        after_a_loss = a.after_a_loss;
-        refused_until_a_clear = a.refused_until_a_clear;
-        from_that_clear_on = a.from_that_clear_on;
       }
 
 -- DEMAND 3, over views,
@@ -168,13 +133,6 @@ run_reads {b = b} {ms = ms} a (ran p) = runs {ns = ms} nothing p (rw (walks_mess
 
 pub demand_3_from_bytes : (b c : Book) → Demand3 RunsOver b c
 demand_3_from_bytes = demanded RunsOver (λ b ms r w a p. reads_after w (run_reads a p))
-
--- and of the depth as of the quote, in both ways
-pub demand_3_of_depth_holds : (b c : Book) → Demand3OfDepth Reads b c
-demand_3_of_depth_holds = demanded_of_depth Reads (λ b ms r w a p. reads_after w p)
-
-pub demand_3_of_depth_from_bytes : (b c : Book) → Demand3OfDepth RunsOver b c
-demand_3_of_depth_from_bytes = demanded_of_depth RunsOver (λ b ms r w a p. reads_after w (run_reads a p))
 
 -- ---- a reader that answers 0 to all of a feed applies it without one refusal
 zero_reads : {b r : Book} {f : ByteFeed} → AnswersZero b f r → Reads b (sent f) r

@@ -15,7 +15,7 @@ use Rattle.book.specs.Depth.{no_depth, depth_by, depth_if, depth_of, rows_of}
 use Rattle.book.proofs.Answers.{quote_answers}
 use Rattle.book.specs.declared.Book.{Book}
 use Rattle.book.specs.declared.depth.Depth.{Depth}
-use Rattle.demands.specs.Depth.{depth_in, OfDepth, FirstRows}
+use Rattle.demands.specs.Depth.{depth_in, OfDepth, FirstRows, DepthAnswers}
 
 -- ---- every depth that is not refused, of any state
 module _ (b : Book) (index : ℕ) (s : Symbol) (there : symbol_in index (view b) ≡ some s) (fresh : s.entry.standing.stale ≡ false) where
@@ -58,12 +58,12 @@ first_row_is_the_quote v index = record { answer = answer (symbol_in index v); l
     level buy (some s) = level_if_lem buy s.entry.standing.stale s.orders
 
 -- ---- so it answers with the quote's numbers; and refused, it shows no row
-pub depth_answers : (v : View) (index : ℕ) → among (depth_of index v).answer (0 ∷ 5 ∷ 8 ∷ []) ≡ true
-depth_answers v index = rw (first_row_is_the_quote v index).answer (quote_answers v index)
+numbers : (v : View) (index : ℕ) → among (depth_of index v).answer (0 ∷ 5 ∷ 8 ∷ []) ≡ true
+numbers v index = rw (first_row_is_the_quote v index).answer (quote_answers v index)
 
-pub depth_refused : (v : View) (index : ℕ) → (depth_of index v).answer ≢ 0 → depth_of index v ≡ no_depth (depth_of index v).answer
+no_rows : (v : View) (index : ℕ) → (depth_of index v).answer ≢ 0 → depth_of index v ≡ no_depth (depth_of index v).answer
 unfolding depth_of
-depth_refused v index = go (symbol_in index v)
+no_rows v index = go (symbol_in index v)
   where
     shown : (t : Bool) (os : List Order) → (depth_if t os).answer ≢ 0 → depth_if t os ≡ no_depth (depth_if t os).answer
     shown true os n = refl
@@ -72,3 +72,6 @@ depth_refused v index = go (symbol_in index v)
     go : (x : Option Symbol) → (depth_by x).answer ≢ 0 → depth_by x ≡ no_depth (depth_by x).answer
     go none n = refl
     go (some s) n = shown s.entry.standing.stale s.orders n
+
+pub depth_answered : (b : Book) → DepthAnswers b
+depth_answered b = record { numbers = numbers (view b); refused = no_rows (view b) }

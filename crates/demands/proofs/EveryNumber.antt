@@ -20,19 +20,16 @@ use Rattle.symbols.specs.Registering as registering
 use Rattle.symbols.specs.Registering.{name_bad}
 use Rattle.orders.specs.Rules.{apply_to}
 use Rattle.orders.specs.Levels.{level_of}
-use Rattle.orders.specs.Rows.{row_after, rows_from, side_rows}
 use Rattle.record.specs.Rules.{deal_to}
 use Rattle.book.specs.State.{View, new_view}
 use Rattle.book.specs.Registering.{register_of, told_in}
 use Rattle.book.specs.Quote.{quote_of, volume_of}
-use Rattle.book.specs.Depth.{depth_of}
 use Rattle.book.specs.Step.{enacted, meeting, act_on, meant, step_of}
 use Rattle.book.specs.Walk.{offset_by, move_of, walk_for, walk_of, steps_of}
 use Rattle.columns.specs.Text.{fixed, digits_by, digits, priced, timed}
 use Rattle.columns.specs.Columns.{rendered}
 use Rattle.page.specs.Printing.{has_no_line, laid, line_by, line_of}
 use Rattle.page.specs.Printout.{passed_text, end_text, quote_text, closing}
-use Rattle.page.specs.Levels.{row_text, rows_text, depth_text, levels_text}
 use Rattle.page.specs.Laying.{lay_from, lay_of}
 use Rattle.demands.specs.Examples.{name, scale, view_abc, in_cash}
 use Rattle.demands.specs.Messages.{index, buy, add, delete, execute_with, clear}
@@ -93,7 +90,7 @@ pub by_wire : ByWire
 unfolding listed value little_endian shape_of first_bad fault_of fault_in reach_by reach_of read_by read_body read_sized read_shape read_typed read_reached read_of write_sized write_by write_shape write_of
 by_wire = record { reach_0 = refl; reach_1 = refl; reach_2 = refl; read_1 = refl; read_2 = refl; read_3 = refl; read_4 = refl; read_4_at = refl; read_4_first = refl; read_4_condition = refl; read_4_condition_at = refl; read_4_zero_at = refl; read_4_letter_at = refl; read_0_texas = refl; test_0_condition = refl; test_4_condition = refl; write_4_condition = refl; write_4_condition_at = refl; write_0_condition = refl; test_0 = refl; test_4 = refl; write_0 = refl; write_4 = refl; write_4_at = refl; write_15 = refl }
 
--- ---- registering, and the questions
+-- ---- registering, and a quote
 abbrev pub gap : List ℕ
 gap = add 2 1001 buy 1234500 200
 
@@ -110,17 +107,14 @@ pub record ByBook : Type 0 where
   pub quote_0 : (quote_of index (view_abc nyse)).answer ≡ 0
   pub quote_5 : (quote_of index (new_view nyse)).answer ≡ 5
   pub quote_8 : (quote_of index (steps_of (view_abc nyse) (gap ∷ []))).answer ≡ 8
-  pub depth_0 : (depth_of index (view_abc nyse)).answer ≡ 0
-  pub depth_5 : (depth_of index (new_view nyse)).answer ≡ 5
-  pub depth_8 : (depth_of index (steps_of (view_abc nyse) (gap ∷ []))).answer ≡ 8
   pub volume_0 : (volume_of index (view_abc nyse)).answer ≡ 0
   pub volume_5 : (volume_of index (new_view nyse)).answer ≡ 5
   pub symbol_0 : (told_in index (view_abc nyse)).answer ≡ 0
   pub symbol_5 : (told_in index (new_view nyse)).answer ≡ 5
 
 pub by_book : ByBook
-unfolding registered_to value little_endian shape_of first_bad fault_of reach_by reach_of read_by read_body read_sized read_shape read_typed read_reached read_of first_where insert remove look place_of found_in vacancy_of apply_to deal_to name_bad registering.registered registering.told_of told_in quote_of depth_of volume_of ruled enacted meeting act_on meant step_of steps_of
-by_book = record { register_0 = refl; register_11 = refl; register_12 = refl; register_13 = refl; quote_0 = refl; quote_5 = refl; quote_8 = refl; depth_0 = refl; depth_5 = refl; depth_8 = refl; volume_0 = refl; volume_5 = refl; symbol_0 = refl; symbol_5 = refl }
+unfolding registered_to value little_endian shape_of first_bad fault_of reach_by reach_of read_by read_body read_sized read_shape read_typed read_reached read_of first_where insert remove look place_of found_in vacancy_of apply_to deal_to name_bad registering.registered registering.told_of told_in quote_of volume_of ruled enacted meeting act_on meant step_of steps_of
+by_book = record { register_0 = refl; register_11 = refl; register_12 = refl; register_13 = refl; quote_0 = refl; quote_5 = refl; quote_8 = refl; volume_0 = refl; volume_5 = refl; symbol_0 = refl; symbol_5 = refl }
 
 -- ---- a message, with ABC registered
 abbrev one : List ℕ
@@ -163,7 +157,7 @@ pub by_run : ByRun
 unfolding value little_endian reach_by reach_of walk_for walk_of
 by_run = record { run_1 = refl; run_2 = refl }
 
--- ---- a line, with ABC registered or not, a laying, the end and the levels
+-- ---- a line, with ABC registered or not, a laying and the end
 abbrev bought : (side : ℕ) → Message
 bought side = Message.Add (record { nanos = 125; index = index; number = 1 }) 1001 1234500 200 side
 
@@ -183,10 +177,7 @@ pub record ByPage : Type 0 where
   pub lay_15 : (lay_of 34200 639 (view_abc nyse) one 0 0).answer ≡ 15
   pub end_0 : (laid (closing (view_abc nyse) index 1) (replicate 10 0)).outcome ≡ done 10
   pub end_15 : (laid (closing (view_abc nyse) index 1) (replicate 9 0)).outcome ≡ refused 15
-  -- twenty lines of seven bytes
-  pub levels_0 : (laid (levels_text (view_abc nyse) index) (replicate 140 0)).outcome ≡ done 140
-  pub levels_15 : (laid (levels_text (view_abc nyse) index) (replicate 139 0)).outcome ≡ refused 15
 
 pub by_page : ByPage
-unfolding value little_endian shape_of first_bad fault_of fault_in reach_by reach_of read_by read_body read_sized read_shape read_typed read_reached read_of first_where insert remove look place_of found_in vacancy_of apply_to deal_to name_bad registering.registered registering.told_of ruled enacted meeting act_on meant step_of told_in padded_name tabulate rendered fixed digits_by digits priced timed has_no_line laid line_by line_of passed_text lay_from lay_of walk_for walk_of closing end_text quote_text quote_of level_of fold sum_by levels_text depth_text rows_text row_text depth_of side_rows rows_from row_after
-by_page = record { line_0 = refl; line_3 = refl; line_4 = refl; line_4_at = refl; line_5 = refl; line_14 = refl; line_15 = refl; lay_1 = refl; lay_2 = refl; lay_15 = refl; end_0 = refl; end_15 = refl; levels_0 = refl; levels_15 = refl }
+unfolding value little_endian shape_of first_bad fault_of fault_in reach_by reach_of read_by read_body read_sized read_shape read_typed read_reached read_of first_where insert remove look place_of found_in vacancy_of apply_to deal_to name_bad registering.registered registering.told_of ruled enacted meeting act_on meant step_of told_in padded_name tabulate rendered fixed digits_by digits priced timed has_no_line laid line_by line_of passed_text lay_from lay_of walk_for walk_of closing end_text quote_text quote_of level_of fold sum_by
+by_page = record { line_0 = refl; line_3 = refl; line_4 = refl; line_4_at = refl; line_5 = refl; line_14 = refl; line_15 = refl; lay_1 = refl; lay_2 = refl; lay_15 = refl; end_0 = refl; end_15 = refl }

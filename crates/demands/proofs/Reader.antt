@@ -8,9 +8,8 @@ use Rattle.feed.specs.Reader as feed
 use Rattle.book.specs.State.{Symbol, View, place_in, symbol_in}
 use Rattle.book.specs.Step.{deal_of, enacted, meeting, act_at, act_on}
 use Rattle.book.specs.Quote.{quoted, quote_of}
-use Rattle.book.specs.Depth.{depth_by, depth_of}
 use Rattle.book.proofs.Isolation.{unregistered_stays, own_symbol, own_symbol_only}
-use Rattle.demands.specs.Reader.{pillar, Orders, Effect, kept_of, kept_if, kept_in, as_quote, as_depth}
+use Rattle.demands.specs.Reader.{pillar, Orders, Effect, kept_of, kept_if, kept_in, as_quote}
 
 -- ---- one symbol: name, scale and record are not feed's affair
 enacted_answers : (s : Symbol) (d : _) (r : Ruling Orders) → (enacted s d r).answer ≡ (replied (kept_of s) r).answer
@@ -78,18 +77,5 @@ quotes_kept v index = go (symbol_in index v)
     shown s false e = rw e
 
     go : (x : Option Symbol) → quoted x ≡ as_quote (feed.showing_of pillar (kept_if x))
-    go none = refl
-    go (some s) = shown s s.entry.standing.stale refl
-
--- and so is a depth
-pub depths_kept : (v : View) (index : ℕ) → depth_of index v ≡ as_depth (feed.showing_of pillar (kept_in v index))
-unfolding depth_of kept_in as_depth feed.showing_of
-depths_kept v index = go (symbol_in index v)
-  where
-    shown : (s : Symbol) (stale : Bool) → s.entry.standing.stale ≡ stale → depth_by (some s) ≡ as_depth (feed.showing_of pillar (some (kept_of s)))
-    shown s true e = rw e
-    shown s false e = rw e
-
-    go : (x : Option Symbol) → depth_by x ≡ as_depth (feed.showing_of pillar (kept_if x))
     go none = refl
     go (some s) = shown s s.entry.standing.stale refl

@@ -32,7 +32,6 @@ use Rattle.book.specs.State.{view, live_in}
 use Rattle.book.specs.Promises.{BecomesStale, Steps}
 use Rattle.book.specs.Registering.{register_of, told_in}
 use Rattle.book.specs.Quote.{no_quote, volume_of}
-use Rattle.book.specs.Depth.{no_depth}
 use Rattle.book.specs.Step.{meant}
 use Rattle.book.specs.Walk.{move_of, walk_of, steps_of, Moves, Runs}
 use Rattle.book.specs.Reached.{Alike}
@@ -43,11 +42,9 @@ use Rattle.book.specs.declared.walk.Ran.{Ran}
 use Rattle.columns.specs.Held.{room}
 use Rattle.page.specs.Printing.{laid, line_of, FirstBadOn, told}
 use Rattle.page.specs.Printout.{closing}
-use Rattle.page.specs.Levels.{levels_text}
 use Rattle.page.specs.Laying.{Lays}
 use Rattle.page.specs.declared.laying.Laid.{Laid}
 use Rattle.demands.specs.Demand3.{StandsAt, quote_in}
-use Rattle.demands.specs.Depth.{depth_in}
 
 -- ---- the numbers: a call answers with one of its own, and where a rule decides which, with the rule's
 abbrev pub OneOf : List ℕ → ℕ → Type 0
@@ -70,7 +67,6 @@ pub record BookNumbers (b : Book) : Type 0 where
   pub applying : {s : List ℕ} {at : ℕ} {r : Moved} → Moves b s at r → Answers (0 ∷ 1 ∷ 2 ∷ 3 ∷ 4 ∷ 5 ∷ 6 ∷ 7 ∷ 8 ∷ 9 ∷ 10 ∷ []) (move_of (view b) s at).answer r.answer
   pub running : {s : List ℕ} {at : ℕ} {r : Ran} → Runs b s at r → Answers (1 ∷ 2 ∷ []) (walk_of s at).answer r.answer
   pub quoting : (index : ℕ) → OneOf (0 ∷ 5 ∷ 8 ∷ []) (quote_in b index).answer
-  pub levelling : (index : ℕ) → OneOf (0 ∷ 5 ∷ 8 ∷ []) (depth_in b index).answer
   pub summing : (index : ℕ) → OneOf (0 ∷ 5 ∷ []) (volume_of index (view b)).answer
   pub telling : {r : Listing} (index : ℕ) → r ≡ told_in index (view b) → OneOf (0 ∷ 5 ∷ []) r.answer
 
@@ -81,12 +77,11 @@ pub record RoomNumbers : Type 0 where
   pub turning : (e : Option Entry) (number : ℕ) → OneOf (0 ∷ 5 ∷ 6 ∷ 7 ∷ 8 ∷ []) (turn_at e number)
   pub fitting : (f : Fit) → OneOf (0 ∷ 9 ∷ 10 ∷ []) (fit_number f)
 
--- `page`: a line, a laying, the end, and the levels
+-- `page`: a line, a laying, and the end
 pub record PageNumbers (b : Book) : Type 0 where
   pub printing : (m : Message) (plain : List ℕ) (sequence second : ℕ) (out : List ℕ) → OneOf (0 ∷ 3 ∷ 4 ∷ 5 ∷ 14 ∷ 15 ∷ []) (number_of (line_of (view b).market (told b m) m plain sequence second out).outcome)
   pub laying : {stream before after : List ℕ} {at place second : ℕ} {r : Laid} → Lays b stream at place second before r after → OneOf (1 ∷ 2 ∷ 14 ∷ 15 ∷ []) r.answer
   pub ending : (index answer : ℕ) (out : List ℕ) → OneOf (0 ∷ 15 ∷ []) (number_of (laid (closing (view b) index answer) out).outcome)
-  pub text_of_levels : (index : ℕ) (out : List ℕ) → OneOf (0 ∷ 15 ∷ []) (number_of (laid (levels_text (view b) index) out).outcome)
 
 -- ---- where a bad field stands: where there is one, 4 is answered with the offset of the first one in its message; with every other number the offset is 0. A run hands
 -- back no 4, nor does a laying
@@ -119,11 +114,10 @@ pub record Buffers : Type 0 where
   -- refused or done, no byte beyond the count changes
   pub beyond : (market : Market) (m : Message) (plain out : List ℕ) → length plain ≡ plain_room → Fills out (write_of market m plain out)
 
--- the page: a refused line, end or text of levels leaves the buffer as it was, with the count 0, and a done one every byte beyond its count
+-- the page: a refused line or end leaves the buffer as it was, with the count 0, and a done one every byte beyond its count
 pub record Pages (b : Book) : Type 0 where
   pub printing : (m : Message) (plain : List ℕ) (sequence second : ℕ) (out : List ℕ) → Printing (line_of (view b).market (told b m) m plain sequence second out) out
   pub ending : (index answer : ℕ) (out : List ℕ) → Printing (laid (closing (view b) index answer) out) out
-  pub text_of_levels : (index : ℕ) (out : List ℕ) → Printing (laid (levels_text (view b) index) out) out
   -- a laying past the last second of the day hands back the state that came in, the position and the place, and leaves the buffer
   pub late : {stream before after : List ℕ} {at place second : ℕ} {r : Laid} → Lays b stream at place second before r after → r.answer ≡ 14
       → (r ≡ record { book = b; at = at; place = place; count = 0; answer = 14 }) × (after ≡ before)
@@ -172,8 +166,6 @@ no_listing = record { answer = 5; name = replicate name_bytes 0; len = 0; scale 
 pub record Questions (b : Book) : Type 0 where
   -- a refused quote shows none on both sides
   pub quoting : (index : ℕ) → (quote_in b index).answer ≢ 0 → quote_in b index ≡ no_quote (quote_in b index).answer
-  -- a refused depth has no row on either side
-  pub levelling : (index : ℕ) → (depth_in b index).answer ≢ 0 → depth_in b index ≡ no_depth (depth_in b index).answer
   -- a refused volume is 0 and not whole
   pub summing : (index : ℕ) → (volume_of index (view b)).answer ≢ 0 → volume_of index (view b) ≡ record { answer = 5; shares = 0; whole = false }
   -- of a symbol that is not registered nothing is told

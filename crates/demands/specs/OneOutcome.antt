@@ -22,7 +22,7 @@ pub data Together : Book → Book → Type 0 where
 pub record OneOutcome : Type 0 where
   -- `new` hands back one state of a market
   pub new : {a b : Book} {market : Market} → Fresh market a → Fresh market b → a ≡ b
-  -- `register`, `apply` and `run`, called twice in one state: one answer, one offset, one position, one next view; `symbol`, `quote`, `depth`, `day_volume` and `market`: one result
+  -- `register`, `apply` and `run`, called twice in one state: one answer, one offset, one position, one next view; `symbol`, `quote`, `day_volume` and `market`: one result
   pub each_call : {b : Book} → Reached b → Alike b b
   -- and what the same calls hand back answers every later call alike
   pub ever_after : {a b : Book} → Together a b → Alike a b

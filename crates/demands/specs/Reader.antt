@@ -1,5 +1,5 @@
 -- The reader that is built, as `feed` knows readers: its states are views, its step is the rule that the contracts cite, and its rules are document 01's.
-use Rattle.std.specs.Prelude.{true, false, List, [], ℕ}
+use Rattle.std.specs.Prelude.{true, false, [], ℕ}
 use Rattle.std.proofs.Math.Option.{Option, none, some, IsSome}
 use Rattle.feed.specs.Reader.{Kept, Rules}
 use Rattle.feed.specs.Reader as feed
@@ -7,24 +7,18 @@ use Rattle.book.specs.State.{Symbol, View, symbol_in}
 use Rattle.book.specs.Step.{change_of}
 use Rattle.orders.specs.Rules.{apply_to}
 use Rattle.orders.specs.Levels.{level_of}
-use Rattle.orders.specs.Rows.{side_rows}
 use Rattle.book.specs.Quote.{no_quote}
-use Rattle.book.specs.Depth.{no_depth}
 use Rattle.orders.specs.declared.levels.Level.{Level}
-use Rattle.orders.specs.declared.rows.LevelRow.{LevelRow}
 use Rattle.book.specs.declared.quote.Quote.{Quote}
-use Rattle.book.specs.declared.depth.Depth.{Depth}
 
--- what a quote shows, for each side none or the best price with the exact sum at it; and beside it what a depth shows (M-106), ten rows a side
+-- what a quote shows: for each side none, or the best price with the exact sum at it
 pub record Sides : Type 0 where
   pub bid : Level
   pub ask : Level
-  pub bids : List LevelRow
-  pub asks : List LevelRow
 
--- document 01's rules of the book: a symbol's live orders, what a numbered message does to them, and what a quote and a depth show of them
+-- document 01's rules of the book: a symbol's live orders, what a numbered message does to them, and what a quote shows of them
 abbrev pub pillar : Rules
-pillar = record { Orders = _; Effect = _; Shown = Sides; empty = []; apply = λ orders e. apply_to orders (change_of e); shows = λ orders. record { bid = level_of true orders; ask = level_of false orders; bids = side_rows true orders; asks = side_rows false orders } }
+pillar = record { Orders = _; Effect = _; Shown = Sides; empty = []; apply = λ orders e. apply_to orders (change_of e); shows = λ orders. record { bid = level_of true orders; ask = level_of false orders } }
 
 abbrev pub Orders : Type 0
 Orders = pillar.Orders
@@ -50,8 +44,3 @@ Registered index v = IsSome (symbol_in index v)
 unfoldable pub as_quote : feed.Showing Sides → Quote
 as_quote (feed.refused answer) = no_quote answer
 as_quote (feed.shown sides) = record { answer = 0; bid = sides.bid; ask = sides.ask }
-
--- and a depth likewise
-unfoldable pub as_depth : feed.Showing Sides → Depth
-as_depth (feed.refused answer) = no_depth answer
-as_depth (feed.shown sides) = record { answer = 0; bids = sides.bids; asks = sides.asks }
