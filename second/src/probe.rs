@@ -5,7 +5,6 @@ use std::fmt::Write;
 use crate::answer::{number, offset_field, Refusal};
 use crate::book::Level;
 use crate::cursor::{hex, Cursor};
-use crate::depth::Row;
 use crate::line::line;
 use crate::reader::Reader;
 use crate::wire::{read, write, Market, Message};
@@ -45,12 +44,11 @@ pub(crate) fn watch(calls: &[u8], mut look: impl FnMut(&Reader)) {
     }
 }
 
-/// What a call does: apply a message that reads, or ask for the volume or the depth of a symbol.
+/// What a call does: apply a message that reads, or ask for the volume of a symbol.
 #[cfg(test)]
 pub(crate) enum Deed {
     Apply(Message),
     Ask(u32),
-    Show(u32),
 }
 
 /// Makes the calls and looks at each deed, with the state before it.
@@ -61,10 +59,8 @@ pub(crate) fn watch_deeds(calls: &[u8], mut look: impl FnMut(&Reader, Deed)) {
     while !cursor.is_empty() {
         let mut fields = cursor.clone();
         let letter = fields.u8();
-        match (letter, fields.clone().u32()) {
-            (Some(b'V'), Some(index)) => look(&reader, Deed::Ask(index)),
-            (Some(b'H'), Some(index)) => look(&reader, Deed::Show(index)),
-            _ => {}
+        if let (Some(b'V'), Some(index)) = (letter, fields.clone().u32()) {
+            look(&reader, Deed::Ask(index));
         }
         match (letter, fields.u16().zip(fields.counted())) {
             (Some(b'S' | b'X'), Some((at, stream))) => {
@@ -122,7 +118,6 @@ fn call(reader: &mut Reader, cursor: &mut Cursor) -> Option<String> {
             Some(position_line('D', next, &message))
         }
         b'Q' => Some(quote_line(reader, cursor.u32()?)),
-        b'H' => Some(depth_line(reader, cursor.u32()?)),
         b'V' => Some(volume_line(reader, cursor.u32()?)),
         b'W' => {
             let nanoseconds = cursor.u32()?;
@@ -189,26 +184,6 @@ fn quote_line(reader: &Reader, index: u32) -> String {
                 let _ = write!(text, ",{price},{size}");
             }
             None => text.push_str(",,"),
-        }
-    }
-    text
-}
-
-/// Twenty rows, also where there is no depth.
-fn depth_line(reader: &Reader, index: u32) -> String {
-    let depth = reader.depth(index);
-    let mut text = format!("H,{}", number(&depth));
-    let depth = depth.unwrap_or_default();
-    for row in depth.bids.into_iter().chain(depth.asks) {
-        match row {
-            Some(Row {
-                price,
-                size,
-                orders,
-            }) => {
-                let _ = write!(text, ",{price},{size},{orders}");
-            }
-            None => text.push_str(",,,"),
         }
     }
     text

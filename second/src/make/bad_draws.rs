@@ -68,7 +68,12 @@ mod tests {
 
     /// Which fields of the messages are bad, the nanoseconds first.
     fn drawn(message: Message, market: Market, own: impl Fn(Body) -> Vec<bool>) -> usize {
-        let mut draw = Draw::new(Random::new(1, "bad fields"), market);
+        let mut draw = Draw {
+            random: Random::new(1, "bad fields"),
+            edges: false,
+            market,
+            pool: None,
+        };
         let mut drawn = HashSet::new();
         for _ in 0..10_000 {
             let bad = with_bad_fields(message, &mut draw);

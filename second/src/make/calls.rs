@@ -149,15 +149,11 @@ fn push_plain(maker: &mut Maker) {
             let bytes: Vec<u8> = (0..count).flat_map(|_| maker.next_message()).collect();
             maker.run(&bytes);
         }
-        10 | 11 => {
+        10..=12 => {
             let index = maker.any_index();
             maker.list.quote(index);
         }
-        12 | 13 => {
-            let index = maker.any_index();
-            maker.list.depth(index);
-        }
-        14 | 15 => {
+        13..=15 => {
             let index = maker.any_index();
             maker.list.volume(index);
         }

@@ -2,7 +2,6 @@
 
 use super::families::Pool;
 use super::messages::{BUY, SELL};
-use super::prices::Prices;
 use super::random::Random;
 use crate::line::LAST_SECOND;
 use crate::wire::message::NANOSECONDS_PER_SECOND;
@@ -41,24 +40,11 @@ pub struct Draw {
     pub edges: bool,
     /// The market whose conditions are drawn.
     pub market: Market,
-    /// The prices that are drawn.
-    pub prices: Prices,
     /// The order numbers that are drawn, where they are to be of few families or of an exchange.
     pub pool: Option<Pool>,
 }
 
 impl Draw {
-    /// Draws of that market, of ordinary values and any order numbers.
-    pub fn new(random: Random, market: Market) -> Draw {
-        Draw {
-            prices: Prices::drawn(&random),
-            random,
-            edges: false,
-            market,
-            pool: None,
-        }
-    }
-
     /// Whether this value is to be one at the edge.
     fn at_edge(&mut self) -> bool {
         self.edges && !self.random.one_in(4)
@@ -72,12 +58,13 @@ impl Draw {
         self.random.pick(&[0, 1, 1])
     }
 
-    /// One of few prices or of many; at times the sides cross.
+    /// Few prices, so that orders meet at a level; at times the sides cross.
     pub fn price(&mut self, side: u8) -> u32 {
         if self.at_edge() {
             return self.random.pick(&EDGES);
         }
-        self.prices.price(side, &mut self.random)
+        let start = if side == BUY { 1_234_000 } else { 1_234_500 };
+        start + self.random.u32_below(7) * 100
     }
 
     /// Never 0: round lots, odd lots, and one share.

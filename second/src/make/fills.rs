@@ -27,7 +27,6 @@ pub fn push_fill(maker: &mut Maker) {
             }
             for index in maker.source.indices().to_vec() {
                 maker.list.quote(index);
-                maker.list.depth(index);
             }
         }
         1 | 2 => fill_record(maker, index),
@@ -49,7 +48,6 @@ pub fn push_fill(maker: &mut Maker) {
         }
     }
     maker.list.quote(index);
-    maker.list.depth(index);
     maker.list.volume(index);
 }
 

@@ -16,7 +16,6 @@ mod homes;
 pub mod messages;
 mod noise;
 mod outputs;
-mod prices;
 pub mod random;
 mod registers;
 pub(crate) mod source;

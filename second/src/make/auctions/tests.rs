@@ -38,12 +38,11 @@ fn met(reader: &Reader, deed: &Deed) -> Option<(bool, Met)> {
     let index = match deed {
         Deed::Apply(message) => message.index,
         Deed::Ask(index) => *index,
-        Deed::Show(_) => return None,
     };
     let symbol = reader.symbol(index)?;
     let met = match deed {
         Deed::Apply(message) => met_by(symbol, message)?,
-        _ => match symbol.record.crosses().len() {
+        Deed::Ask(_) => match symbol.record.crosses().len() {
             0 => return None,
             KEPT_CROSSES => Met::AskedWhenFull,
             _ => Met::Asked,

@@ -35,8 +35,7 @@ pub fn push_home(maker: &mut Maker) {
             let bytes: Vec<u8> = (0..count).flat_map(|_| next_change(maker, index)).collect();
             maker.run_at(0, &bytes);
         }
-        140..=163 => maker.list.quote(index),
-        164..=187 => maker.list.depth(index),
+        140..=187 => maker.list.quote(index),
         188..=192 => maker.list.volume(index),
         193 => clear_and_fill(maker, index),
         194..=198 => {
@@ -71,13 +70,12 @@ fn fill_to(maker: &mut Maker, index: u32, depth: usize) {
     push_run(maker, index, &bytes);
 }
 
-/// A run over these bytes, if there are any, the quote and the depth.
+/// A run over these bytes, if there are any, and the quote.
 fn push_run(maker: &mut Maker, index: u32, bytes: &[u8]) {
     if !bytes.is_empty() {
         maker.run_at(0, bytes);
     }
     maker.list.quote(index);
-    maker.list.depth(index);
 }
 
 /// Some orders or all of them go, in any order.
@@ -204,7 +202,6 @@ fn push_overflow(maker: &mut Maker, index: u32) {
 fn push_refused(maker: &mut Maker, index: u32, body: Body) {
     push_unapplied(maker, index, body);
     maker.list.quote(index);
-    maker.list.depth(index);
     for _ in 0..maker.random().below(3) {
         let body = change(maker, index);
         push_unapplied(maker, index, body);

@@ -36,7 +36,7 @@ fn told(seed: u64) -> Vec<Told> {
             Some(b'S' | b'X') => {
                 told.extend(apply(&mut reader, &mut call).expect("a whole call"));
             }
-            letter => assert!(matches!(letter, Some(b'Q' | b'H' | b'V')), "{letter:?}"),
+            letter => assert!(matches!(letter, Some(b'Q' | b'V')), "{letter:?}"),
         }
     }
     told

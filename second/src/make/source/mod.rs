@@ -31,12 +31,16 @@ pub struct Source {
 impl Source {
     /// A source of that market's messages, with no symbol yet.
     pub fn new(random: Random, market: Market) -> Source {
-        let draw = Draw::new(random, market);
         Source {
-            depth: draw.prices.depth(),
-            draw,
+            draw: Draw {
+                random,
+                edges: false,
+                market,
+                pool: None,
+            },
             reader: Reader::new(market),
             indices: Vec::new(),
+            depth: 8,
             clears: 150,
         }
     }

@@ -55,7 +55,7 @@ impl Twice {
         }
     }
 
-    /// The quotes, depths and volumes are asked where the runs stop, and before that, in the first state,
+    /// The quotes and volumes are asked where the runs stop, and before that, in the first state,
     /// after the same messages.
     fn list(&self) -> CallList {
         let mut list = CallList::new();
@@ -87,7 +87,6 @@ impl Twice {
     fn ask(&self, list: &mut CallList) {
         for (index, ..) in &self.symbols {
             list.quote(*index);
-            list.depth(*index);
             list.volume(*index);
         }
     }

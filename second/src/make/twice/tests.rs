@@ -79,7 +79,7 @@ fn count(runs: &[Vec<Told>], property: impl Fn(&Told) -> bool) -> usize {
     runs.iter().flatten().filter(|told| property(told)).count()
 }
 
-/// The answers of quotes, depths and volumes, in the first state and in the second. Only the full books are
+/// The answers of quotes and volumes, in the first state and in the second. Only the full books are
 /// runs in the first.
 fn asked(seed: u64) -> [Vec<String>; 2] {
     let text = probe(&calls(seed, CallKind::Twice, COUNT));
@@ -87,9 +87,7 @@ fn asked(seed: u64) -> [Vec<String>; 2] {
     assert_eq!(steps.matches("\nX,").count(), twice(seed).full.len());
     assert!(!runs.contains("\nS,"), "{seed}");
     [steps, runs].map(|half| {
-        let asked = half
-            .lines()
-            .filter(|line| line.starts_with(['Q', 'H', 'V']));
+        let asked = half.lines().filter(|line| line.starts_with(['Q', 'V']));
         asked.map(String::from).collect()
     })
 }
@@ -103,10 +101,10 @@ fn both_states_tell_the_same() {
     }
 }
 
-/// Few quotes and depths are of a stale symbol, which show nothing, and many volumes are with the mark
-/// and without.
+/// Few quotes are of a stale symbol, which show nothing, and many volumes are with the mark and
+/// without.
 #[test]
-fn quotes_depths_and_volumes_show_something() {
+fn quotes_and_volumes_show_something() {
     let lines: Vec<String> = SEEDS.flat_map(|seed| asked(seed).concat()).collect();
     let percent = |start: &str, end: &str| {
         let same_call = lines.iter().filter(|line| line[..1] == start[..1]);
@@ -115,9 +113,8 @@ fn quotes_depths_and_volumes_show_something() {
             .filter(|line| line.starts_with(start) && line.ends_with(end));
         100 * part.count() / same_call.count()
     };
-    assert!(percent("Q,8,", "") < 10 && percent("H,8,", "") < 10);
+    assert!(percent("Q,8,", "") < 10);
     assert!(percent("Q,0,", "") - percent("Q,0,", ",,,") >= 40);
-    assert!(percent("H,0,", "") - percent(&format!("H,0{}", ",".repeat(60)), "") >= 40);
     for whole in [",0", ",1"] {
         assert!(percent("V,0,", whole) >= 20, "{whole}");
     }
