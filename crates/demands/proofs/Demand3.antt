@@ -70,8 +70,8 @@ Faithful Takes = (b : Book) (ms : List (List ℕ)) (r : Book) → Wf b → AllCo
 
 module _ (Takes : Book → List (List ℕ) → Book → Type 0) (faithful : Faithful Takes) (b c : Book) where
   module _ {f : ByteFeed} (g : Given b c f) where
-    first-quotes : {r : Book} → Takes b (sent f) r → (index : ℕ) → quote_in r index ≡ as_quote (quote pillar reader (first pillar reader (view b) (feed_of (view b).market f)) index)
-    first-quotes {r = r} t index =
+    first_quotes : {r : Book} → Takes b (sent f) r → (index : ℕ) → quote_in r index ≡ as_quote (quote pillar reader (first pillar reader (view b) (feed_of (view b).market f)) index)
+    first_quotes {r = r} t index =
         ap (quote_of index) ((faithful b (sent f) r (began_wf g.first_began) (sent_complete f g.complete) t).seen ∙ first_steps (view b) f g.applied)
         ∙ quotes_kept (first pillar reader (view b) (feed_of (view b).market f)) index
 
@@ -81,8 +81,8 @@ module _ (Takes : Book → List (List ℕ) → Book → Type 0) (faithful : Fait
     second_view : {r : Book} → Takes c (delivered f) r → view r ≡ second pillar reader (view c) (feed_of (view b).market f)
     second_view t = (second_after t).seen ∙ second_steps (view b) (view c) (sym g.same_market) f g.applied
 
-    second-quotes : {r : Book} → Takes c (delivered f) r → (index : ℕ) → quote_in r index ≡ as_quote (quote pillar reader (second pillar reader (view c) (feed_of (view b).market f)) index)
-    second-quotes {r = r} t index =
+    second_quotes : {r : Book} → Takes c (delivered f) r → (index : ℕ) → quote_in r index ≡ as_quote (quote pillar reader (second pillar reader (view c) (feed_of (view b).market f)) index)
+    second_quotes {r = r} t index =
         ap (quote_of index) (second_view t)
         ∙ quotes_kept (second pillar reader (view c) (feed_of (view b).market f)) index
 
@@ -107,13 +107,13 @@ module _ (Takes : Book → List (List ℕ) → Book → Type 0) (faithful : Fait
   unfolding as_quote
   demanded f _ _ n =
       let given = given_feed b c f n.given in
-      let now = first-quotes n.given n.all in
-      let hearing = second-quotes n.given n.rest in
+      let now = first_quotes n.given n.all in
+      let hearing = second_quotes n.given n.rest in
       record {
         nothing_lost = λ index l. hearing index ∙ ap as_quote (of_views.nothing_lost index given l) ∙ sym (now index);
         quotes_the_book = λ index y l. hearing index ∙ ap as_quote (of_views.quotes_the_book index given (is_registered (view b) index y) l);
         first_quotes_the_book = λ index y. now index ∙ ap as_quote (of_views.first_quotes_the_book index given (is_registered (view b) index y));
-        after_a_loss = λ index m before l. hearing index ∙ ap as_quote (of_views.after_a_loss index given l) ∙ sym (first-quotes (given_at b c m n.given) before index);
+        after_a_loss = λ index m before l. hearing index ∙ ap as_quote (of_views.after_a_loss index given l) ∙ sym (first_quotes (given_at b c m n.given) before index);
         refused_until_a_clear = λ index u. hearing index ∙ ap as_quote (of_views.refused_until_a_clear index given u);
         from_that_clear_on = λ index s. hearing index ∙ ap as_quote (of_views.from_that_clear_on index given s) ∙ sym (now index);
         answers = answers_next n.given n.rest;
