@@ -3,22 +3,21 @@ use mathlib.Core.Bool.{Bool, true, false, true≢false}
 use mathlib.Core.List.{List, ◌++◌, flatten}
 use mathlib.Core.Logic.{◌⊎◌, inl, inr, ⊎_elim, ◌≢◌}
 use mathlib.Core.Path.{◌≡◌, refl, sym, ap, ◌∙◌, subst}
-use Prim.Native.Nat.{ℕ, ◌+◌, ◌-◌, ◌≤◌, ◌<◌}
+use Prim.Native.Nat.{ℕ, ◌-◌, ◌≤◌, ◌<◌}
 use native.Mathlib.Omega.{arith}
 use borrow.Author.Tests.{ltb-true, ltb-false, eqb-true, eqb-false}
 use lib.Dec.{ltb, eqb}
 use lib.IntN.{ℤ, pos, negsuc}
 use lib.ListN.{length, take, drop, get_or, length-append, length-take, get_or-eq_default}
 use lib.Seq.{take-take, get_or-take, length-take-le, length-slice, take_at}
-use Rattle.io.specs.Counts.{clamp_len}
 use Rattle.wire.specs.Outcome.{refused}
 use Rattle.wire.specs.Reading.{reach_of}
 use Rattle.wire.specs.Writing.{Write, count_of}
 use Rattle.wire.specs.RoundTrip.{Bytes}
 use Rattle.wire.proofs.Answers.{reach_refuses}
 use Rattle.book.specs.State.{view}
-use Rattle.book.specs.Walk.{Walk}
 use Rattle.columns.specs.Held.{room}
+use Rattle.book.specs.Walk.{Walk}
 use Rattle.page.specs.Printing.{printed_as, printed, laid}
 use Rattle.page.specs.Laying.{lay_of, Lays}
 use Rattle.page.specs.declared.Printed.{Printed}
@@ -29,7 +28,7 @@ use Rattle.parts.proofs.Opening.{Front}
 use Rattle.parts.proofs.FullParts.{full_part_moves}
 use Rattle.parts.proofs.Walks.{walk_stops}
 use Rattle.painterend.specs.Program.{second}
-use Rattle.painterend.specs.Turn.{left, awaiting, Brings, Given, Ready, Ends, interrupted, lays_part, ends, Turn, LaysFilled, Unread, Heeds}
+use Rattle.painterend.specs.Turn.{left, awaiting, has_failed, clamp_len, Brings, Given, Ready, Ends, interrupted, lays_part, ends, Turn, LaysFilled, Unread, Heeds}
 use Rattle.painterend.specs.declared.turns.State.{State}
 use Rattle.painterend.specs.declared.turns.Filled.{Filled}
 
@@ -76,7 +75,7 @@ module _ (l : Laid) (size : ℕ) (buffer sheet : List ℕ) (x : Laid) (out : Lis
       go true e = inl (eqb-true a 1 e)
       go false e = let ne = eqb-false a 1 e in inr (inl (omega (arith, ne, least, most)))
 
-  pub filled_laid : LaysFilled l size buffer sheet (record { laid = x; full = size; goes_on = true; failed = false; levels = false }) out
+  pub filled_laid : LaysFilled l size buffer sheet (record { laid = x; full = size; goes_on = true; failed = false }) out
   filled_laid =
       let o = lays.obeys (omega arith) g.sound in
       let text = (lay_of second (length sheet) (view l.book) (take size buffer) 0 l.place).sheet.text in
@@ -85,7 +84,6 @@ module _ (l : Laid) (size : ℕ) (buffer sheet : List ℕ) (x : Laid) (out : Lis
         lays = lays;
         goes_on = refl;
         good = refl;
-        unlaid = refl;
         ready = record {
           given = record { sound = o.wf; part = g.part; sheet = omega (arith, same, g.sheet) };
           range = moved;
@@ -96,10 +94,10 @@ module _ (l : Laid) (size : ℕ) (buffer sheet : List ℕ) (x : Laid) (out : Lis
         count = omega (arith, o.count, ap length o.out, length-append text (drop (length text) sheet));
       }
 
--- ---- the end, or what stands behind it, is laid
-pub text_laid : (text before out : List ℕ) (p : Printed) (n : ℕ) → length text ≤ length before → printed p out ≡ laid text before → n ≡ count_of (printed_as p).outcome → (take n out ≡ text) × (n ≤ length out)
-text_laid text before out p n fits e count =
-    let whole = e ∙ laid_fits text before fits in
+-- ---- the end is laid
+pub end_laid : (text before out : List ℕ) (p : Printed) (n : ℕ) → length text ≤ room → room ≤ length before → printed p out ≡ laid text before → n ≡ count_of (printed_as p).outcome → (take n out ≡ text) × (n ≤ length out)
+end_laid text before out p n short long e count =
+    let whole = e ∙ laid_fits text before (omega (arith, short, long)) in
     let bytes : out ≡ text ++ drop (length text) before = ap (λ (w : Write). w.out) whole in
     let size : n ≡ length text = count ∙ ap (λ (w : Write). count_of w.outcome) whole in
     (ap (take n) bytes ∙ take_at text (drop (length text) before) n (sym size), omega (arith, size, ap length bytes, length-append text (drop (length text) before)))
@@ -131,7 +129,6 @@ module _ (l : Laid) (bytes : List ℕ) (r : State) (after out : List ℕ) where
       unread = λ other. x.full ∙ unread other ∙ sym f.long;
       lays = rw x.full x.lays;
       goes_on = x.goes_on;
-      unlaid = x.unlaid;
     });
     ready = λ g. x.ready;
     count = x.count;
@@ -167,7 +164,7 @@ filled_within kept before f after h same x = omega (arith, x.counted.full, clamp
 module _ (l : Laid) (kept : ℕ) (before : List ℕ) (f : Filled) (after sheet : List ℕ) (r : State) (out : List ℕ) where
   -- what a read brought
   pub turn_reads : kept < length before → length after ≡ length before → length out ≡ length sheet → l.answer ≡ 1 → Given l before sheet → Brings kept before f after → Heeds f l kept after sheet r out → Turn l (take kept before) r after out
-  turn_reads h same alike one g x y = go f.failed refl (eqb f.full kept) refl
+  turn_reads h same alike one g x y = go (has_failed f) refl (eqb f.full kept) refl
     where
       long : length (take kept before) ≡ kept
       long = length-take-le kept before (omega (arith, h))
@@ -175,7 +172,7 @@ module _ (l : Laid) (kept : ℕ) (before : List ℕ) (f : Filled) (after sheet :
       front : Front (take kept before) kept after
       front = record { long = long; shows = x.stays; within = omega (arith, h, same) }
 
-      go : (t : Bool) → f.failed ≡ t → (none : Bool) → eqb f.full kept ≡ none → Turn l (take kept before) r after out
+      go : (t : Bool) → has_failed f ≡ t → (none : Bool) → eqb f.full kept ≡ none → Turn l (take kept before) r after out
       go true e none q = turn_unread l (take kept before) r after out kept front (omega (arith, h, same)) one (record { sound = g.sound; part = same ∙ g.part; sheet = omega (arith, alike, g.sheet) }) (y.unread e)
       go false e true q = turn_ends l (take kept before) r after out (λ z. omega (arith, one, z)) (y.ended e (eqb-true f.full kept q))
       go false e false q = turn_lays l (take kept before) r after out kept f.full sheet front (omega (arith, x.counted.full)) (λ other. absurd (other one)) (y.filled e (eqb-false f.full kept q))

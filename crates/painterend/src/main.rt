@@ -1,30 +1,37 @@
-// The bureau's program: it reads a file of messages, part by part, and prints lines, refusals and the last quote, and where they are asked for the last levels.
+// The bureau's program: it reads a file of messages, part by part, and prints lines, refusals and the last quote.
 //
 // What is printed stands in `page`, how leftovers open the next part in `parts`. Here are the file and the order of things: fill, lay, write, carry.
 #![tactic(auto)]
 
-mod levels;
-mod options;
 mod output;
 mod turns;
 
 ghost use Rattle.std.specs.Prelude.{◌≡◌, length};
 ghost use Rattle.parts.specs.Parts.{part_room};
 ghost use Rattle.painterend.specs.Program.{Starts};
-ghost use Rattle.painterend.specs.Course.{Ran};
+ghost use Rattle.painterend.specs.Course.{Ran, Prints};
 
 use book::Book;
-use levels::behind;
-use libc::STDERR_FILENO;
 use markets::Market;
-use options::{Options, heard_before, is_levels};
-use output::written;
+use output::{fail, written};
+use std::env::{Env, FillError};
+use std::fs::{File, Files};
+use std::io;
+use std::io::{Eprint, Print, Read, Write};
 use turns::{INDEX, State, reading, turn};
 
 const SCALE: u8 = 4;
 
 // A part has at most 64 KiB, with the bytes that open it.
 const PART: usize = 65536;
+
+// As long as the system lets a name be.
+const NAME_ROOM: usize = 4096;
+
+// What the system calls a name that is too long, and bytes that are no text.
+const ENAMETOOLONG: i32 = 36;
+
+const EILSEQ: i32 = 84;
 
 // Room for a part, or for what is laid of one.
 fn part_room() -> [u8; PART]
@@ -43,8 +50,9 @@ fn start() -> Book
 }
 
 // A proved loop has to end, and nothing says that a file does: the turns are counted down from a number that no run uses up.
-fn all_parts(fd: i32, path: &[u8], o: Options) -> State
-    ensures { Ran o.levels result }
+fn all_parts<R: Eprint, F: Read, P: Write>(rt: &R, file: &mut F, path: &str, paper: &mut P) -> State
+    ensures ran { Ran result }
+    ensures prints { Prints result (F.remaining file.old) (F.remaining file.new) (P.contents paper.old) (P.contents paper.new) }
 {
     let mut space = part_room();
     let buffer: &mut [u8] = &mut space;
@@ -53,53 +61,57 @@ fn all_parts(fd: i32, path: &[u8], o: Options) -> State
     let mut s = reading(start(), 0, 0);
     let mut turns = u64::MAX;
     while turns > 0 && s.goes_on {
-        s = turn(fd, path, buffer, out, s);
-        s = written(out, s);
+        s = turn(rt, file, path, buffer, out, s);
+        s = written(rt, paper, out, s);
         turns -= 1;
     }
-    behind(o.levels, s, out)
+    s
 }
 
-// What a start with other words gets.
-fn usage() {
-    io::write_all(
-        STDERR_FILENO,
-        b"painterend: name a file of messages, as in: painterend [--levels] FILE\n",
-    );
+fn print<R: Files + Print + Eprint>(rt: &R, path: &str) {
+    match File::open(rt, path) {
+        Ok(mut file) => {
+            let mut paper = io::writer(rt);
+            all_parts(rt, &mut file, path, &mut paper);
+        }
+        Err(e) => fail(rt, path, e),
+    }
 }
 
-// An option in the file's place names none.
-fn print(path: &[u8], o: Options) {
-    if is_levels(path) {
-        usage();
-        return;
+// How many words there are, with the program's own name.
+fn count_of_words<E: Env>(words: &E) -> usize {
+    for i in 0..usize::MAX {
+        let mut word = [0u8; NAME_ROOM];
+        match words.arg(i, &mut word) {
+            Err(FillError::NotPresent) => return i,
+            _ => {}
+        }
     }
-    let fd = os::open_read(path);
-    if fd < 0 {
-        os::fail(path);
-        return;
-    }
-    all_parts(fd, path, o);
-    libc::close(fd);
+    usize::MAX
 }
 
-fn main() {
-    let count = os::arg_count();
-    if count < 2 {
-        usage();
+// The file's name has to be text, since std opens no other.
+fn main(rt: HostRuntime) {
+    if count_of_words(&rt) != 2 {
+        let _ = eprintln!(rt; "painterend: name a file of messages, as in: painterend FILE");
         return;
     }
-    let last = count - 1;
-    let o = heard_before(last);
-    if o.bad {
-        usage();
+    let mut space = [0u8; NAME_ROOM];
+    let name: &mut [u8] = &mut space;
+    let Ok(n) = rt.arg(1, name) else {
+        fail(
+            &rt,
+            "painterend: the file's name",
+            io::Error::from_raw_os_error(ENAMETOOLONG),
+        );
         return;
+    };
+    match std::str::from_utf8(&name[..n]) {
+        Ok(path) => print(&rt, path),
+        Err(_) => fail(
+            &rt,
+            "painterend: the file's name",
+            io::Error::from_raw_os_error(EILSEQ),
+        ),
     }
-    let mut path = io::buffer();
-    let n = os::arg(last, &mut path);
-    if os::errno() != 0 {
-        os::fail(b"painterend: the file's name");
-        return;
-    }
-    print(&path[..n], o);
 }

@@ -1,11 +1,15 @@
 // One turn: the bytes that are left go to the front, a read fills the buffer behind them, and the texts of what is there are laid; or the end is.
-ghost use Rattle.std.specs.Prelude.{◌≡◌, ◌≤◌, ◌<◌, length, take};
+ghost use Rattle.std.specs.Prelude.{◌≡◌, ◌≤◌, ◌<◌, false, length, take, drop};
+ghost use Rattle.std.specs.Io.KnownBytes.{Consumes, IsAtEnd};
 ghost use Rattle.columns.specs.Held.{room};
-ghost use Rattle.painterend.specs.Turn.{left, awaiting, Failed, Counted, Brings, Given, Ends, Ready, LaysFilled, Unread, Heeds, Turn};
+ghost use Rattle.painterend.specs.Turn.{left, awaiting, Failed, told, has_failed, Counted, Brings, Reads, Given, Ends, Ready, LaysFilled, Unread, Heeds, Turn};
 
+use crate::output::{again, fail};
 use book::Book;
 use page::Laid;
 use parts::carry;
+use std::io;
+use std::io::{Eprint, Read};
 
 // The index of the symbol that is registered.
 pub(crate) const INDEX: u32 = 7;
@@ -16,15 +20,13 @@ const SECOND: u32 = 34200;
 // A laying that ended for want of room.
 const NO_ROOM: u8 = 15;
 
-// Between two turns: what the last one laid, how many bytes of the buffer are filled, whether there is more to do, whether an error was reported, and whether levels
-// are laid behind the end.
+// Between two turns: what the last one laid, how many bytes of the buffer are filled, whether there is more to do, and whether an error was reported.
 #[derive(Clone, Copy)]
 pub(crate) struct State {
     pub(crate) laid: Laid,
     pub(crate) full: usize,
     pub(crate) goes_on: bool,
     pub(crate) failed: bool,
-    pub(crate) levels: bool,
 }
 
 // With so many bytes at the front of the buffer, and more to be read behind them.
@@ -43,7 +45,6 @@ pub(crate) fn reading(book: Book, place: u64, kept: usize) -> State
         full: kept,
         goes_on: true,
         failed: false,
-        levels: false,
     }
 }
 
@@ -58,47 +59,53 @@ pub(crate) fn failing(l: Laid) -> State
         full: 0,
         goes_on: false,
         failed: true,
-        levels: false,
     }
 }
 
-// Whether a read failed, and how many bytes of the buffer are filled after it.
+// Whether and how a read failed, and how many bytes of the buffer are filled after it.
 #[derive(Clone, Copy)]
 struct Filled {
-    failed: bool,
+    outcome: io::Result<()>,
     full: usize,
 }
 
 // Reads once, behind the bytes that are kept.
-fn fill(fd: i32, buffer: &mut [u8], kept: usize) -> Filled
+fn fill<F: Read>(file: &mut F, buffer: &mut [u8], kept: usize) -> Filled
     requires { kept < length buffer.old }
-    ensures { Brings kept buffer.old result buffer.new }
+    ensures brings { Brings kept buffer.old result buffer.new }
+    ensures takes { Consumes (F.remaining file.old) (F.remaining file.new) (drop kept (take result.full buffer.new)) }
+    ensures ended { has_failed result ≡ false → result.full ≡ kept → IsAtEnd (F.remaining file.new) }
 {
-    let got = libc::read(fd, &mut buffer[kept..]);
+    let got = file.read(&mut buffer[kept..]);
     counted(got, kept, buffer)
 }
 
 // By what the read answered.
-fn counted(got: isize, kept: usize, buffer: &[u8]) -> Filled
+fn counted(got: io::Result<usize>, kept: usize, buffer: &[u8]) -> Filled
     requires { kept < length buffer.now }
-    ensures { Counted got kept (length buffer.now) result }
+    ensures { Counted (told got) kept (length buffer.now) result }
 {
-    let n = io::count(got, &buffer[kept..]);
-    Filled {
-        failed: got < 0,
-        full: kept + n,
+    match got {
+        Ok(n) => Filled {
+            outcome: Ok(()),
+            full: kept + n.min(buffer.len() - kept),
+        },
+        Err(e) => Filled {
+            outcome: Err(e),
+            full: kept,
+        },
     }
 }
 
 // Where a read failed: it is made again if a signal interrupted it, and else reported.
-fn unread(path: &[u8], l: Laid, kept: usize) -> State
+fn unread<R: Eprint>(rt: &R, e: io::Error, path: &str, l: Laid, kept: usize) -> State
     ensures { Unread l kept result }
 {
-    if os::errno() == libc::EINTR {
+    if again(e) {
         let b = l.book;
         return reading(b, l.place, kept);
     }
-    os::fail(path);
+    fail(rt, path, e);
     failing(l)
 }
 
@@ -114,7 +121,6 @@ fn lay_filled(l: Laid, buffer: &[u8], full: usize, out: &mut [u8]) -> State
         full,
         goes_on: true,
         failed: false,
-        levels: false,
     }
 }
 
@@ -132,17 +138,24 @@ fn lay_ending(l: Laid, out: &mut [u8]) -> State
         full: 0,
         goes_on: false,
         failed: false,
-        levels: false,
     }
 }
 
 // By what a read brought. No byte more is the end of the file.
-fn heed(f: Filled, path: &[u8], buffer: &[u8], kept: usize, out: &mut [u8], l: Laid) -> State
+fn heed<R: Eprint>(
+    rt: &R,
+    f: Filled,
+    path: &str,
+    buffer: &[u8],
+    kept: usize,
+    out: &mut [u8],
+    l: Laid,
+) -> State
     requires { (f.full ≤ length buffer.now) × Given l buffer.now out.old }
     ensures { Heeds f l kept buffer.now out.old result out.new }
 {
-    if f.failed {
-        return unread(path, l, kept);
+    if let Err(e) = f.outcome {
+        return unread(rt, e, path, l, kept);
     }
     if f.full == kept {
         return lay_ending(l, out);
@@ -151,18 +164,35 @@ fn heed(f: Filled, path: &[u8], buffer: &[u8], kept: usize, out: &mut [u8], l: L
 }
 
 // The walk wanted more.
-fn read_on(fd: i32, path: &[u8], buffer: &mut [u8], kept: usize, out: &mut [u8], l: Laid) -> State
+fn read_on<R: Eprint, F: Read>(
+    rt: &R,
+    file: &mut F,
+    path: &str,
+    buffer: &mut [u8],
+    kept: usize,
+    out: &mut [u8],
+    l: Laid,
+) -> State
     requires { (kept < length buffer.old) × (l.answer ≡ 1) × Given l buffer.old out.old }
-    ensures { Turn l (take kept buffer.old) result buffer.new out.new }
+    ensures turn { Turn l (take kept buffer.old) result buffer.new out.new }
+    ensures reads { Reads l (take kept buffer.old) result buffer.new (F.remaining file.old) (F.remaining file.new) }
 {
-    let f = fill(fd, buffer, kept);
-    heed(f, path, buffer, kept, out, l)
+    let f = fill(file, buffer, kept);
+    heed(rt, f, path, buffer, kept, out, l)
 }
 
 // A Msg Size below 4 ends the reading. Where the last laying had no room for the next text, nothing is read.
-pub(crate) fn turn(fd: i32, path: &[u8], buffer: &mut [u8], out: &mut [u8], s: State) -> State
+pub(crate) fn turn<R: Eprint, F: Read>(
+    rt: &R,
+    file: &mut F,
+    path: &str,
+    buffer: &mut [u8],
+    out: &mut [u8],
+    s: State,
+) -> State
     requires { Ready s buffer.old out.old }
-    ensures { Turn s.laid (left s buffer.old) result buffer.new out.new }
+    ensures turn { Turn s.laid (left s buffer.old) result buffer.new out.new }
+    ensures reads { Reads s.laid (left s buffer.old) result buffer.new (F.remaining file.old) (F.remaining file.new) }
 {
     let l = s.laid;
     if l.answer == 2 {
@@ -172,5 +202,5 @@ pub(crate) fn turn(fd: i32, path: &[u8], buffer: &mut [u8], out: &mut [u8], s: S
     if l.answer == NO_ROOM {
         return lay_filled(l, buffer, kept, out);
     }
-    read_on(fd, path, buffer, kept, out, l)
+    read_on(rt, file, path, buffer, kept, out, l)
 }
