@@ -1,6 +1,7 @@
 // One turn: the bytes that are left go to the front, a read fills the buffer behind them, and the texts of what is there are laid; or the end is.
-ghost use Rattle.std.specs.Prelude.{◌≡◌, ◌≤◌, ◌<◌, false, length, take, drop};
+ghost use Rattle.std.specs.Prelude.{◌≡◌, ◌≤◌, ◌<◌, ◌↔◌, IsFalse, false, length, take, drop};
 ghost use Rattle.std.specs.Io.KnownBytes.{Consumes, IsAtEnd};
+ghost use Rattle.std.specs.IoError.{error_kind};
 ghost use Rattle.columns.specs.Held.{room};
 ghost use Rattle.painterend.specs.Turn.{left, awaiting, Failed, told, has_failed, Counted, Brings, Reads, Given, Ends, Ready, LaysFilled, Unread, Heeds, Turn};
 
@@ -9,7 +10,7 @@ use book::Book;
 use page::Laid;
 use parts::carry;
 use std::io;
-use std::io::{Eprint, Read};
+use std::io::{Eprint, ErrorKind, Read};
 
 // The index of the symbol that is registered.
 pub(crate) const INDEX: u32 = 7;
@@ -99,7 +100,8 @@ fn counted(got: io::Result<usize>, kept: usize, buffer: &[u8]) -> Filled
 
 // Where a read failed: it is made again if a signal interrupted it, and else reported.
 fn unread<R: Eprint>(rt: &R, e: io::Error, path: &str, l: Laid, kept: usize) -> State
-    ensures { Unread l kept result }
+    ensures state { Unread l kept result }
+    ensures again { IsFalse result.failed ↔ (error_kind e ≡ ErrorKind.Interrupted) }
 {
     if again(e) {
         let b = l.book;
