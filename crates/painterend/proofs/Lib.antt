@@ -1,5 +1,6 @@
 pub mod Readiness
 pub mod Courses
+pub mod Asking
 pub mod Passed
 pub mod Printing
 pub mod Examples

@@ -1,3 +1,4 @@
 pub mod Program
+pub mod Options
 pub mod Turn
 pub mod Course
