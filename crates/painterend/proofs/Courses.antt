@@ -14,15 +14,14 @@ use Rattle.book.specs.declared.Book.{Book}
 use Rattle.book.specs.Walk.{Walk, AllComplete, walk_of, steps_of}
 use Rattle.book.proofs.Walking.{steps_join}
 use Rattle.page.specs.Printout.{texts_of, closing, printed_of}
-use Rattle.page.specs.Levels.{levels_text}
 use Rattle.page.proofs.Passing.{place_after, places_join, texts_join, flatten_join, complete_join, lays_passes}
 use Rattle.parts.specs.Parts.{part_room, walk_parts}
 use Rattle.parts.proofs.Walks.{walk_stops, walk_behind}
 use Rattle.parts.proofs.Cuts.{small_ends_the_file, cuts_do_not_matter}
-use Rattle.painterend.specs.Program.{index, second, start_view, printout, last_view, printout_with, Starts}
+use Rattle.painterend.specs.Program.{index, second, start_view, printout, Starts}
 use Rattle.painterend.specs.Turn as turn
-use Rattle.painterend.specs.Turn.{left, awaiting, read_behind, Failed, Ready, Interrupted, LaysPart, Ends, Turns, Turn, LaysLevels, Behind}
-use Rattle.painterend.specs.Course.{laid_by, Course, begins, interrupted, lays_part, ends, lays_levels, fails, Ran}
+use Rattle.painterend.specs.Turn.{left, awaiting, read_behind, Failed, Ready, Interrupted, LaysPart, Ends, Turns, Turn}
+use Rattle.painterend.specs.Course.{laid_by, Course, begins, interrupted, lays_part, ends, fails, Ran}
 use Rattle.painterend.specs.declared.turns.State.{State}
 
 -- ---- so far: the messages passed, then the bytes that are left, are what was read; the view, the place and the texts are those of the messages passed
@@ -77,38 +76,36 @@ so_far (begins {buffer = buffer} s) g = at_the_start buffer s
 so_far (interrupted p h x) g = after_an_interrupt (so_far p h) x
 so_far (lays_part p h x) g = after_a_laying (so_far p h) x
 so_far (ends p h n e) g = absurd (true≢false (sym g ∙ e.over))
-so_far (lays_levels p h f u x) g = absurd (true≢false (sym g ∙ x.over))
 so_far (fails p f) g = absurd (true≢false (sym g ∙ f.over))
 
--- ---- the loop: up to a state there was a course, and no levels are laid yet
+-- ---- the loop: up to a state there was a course
 pub record Reached (s : State) (buffer : List ℕ) : Type 0 where
   pub file : List ℕ
   pub text : List ℕ
   pub course : Course file text s buffer
-  pub unlaid : s.failed ≡ false → s.levels ≡ false
 
 pub reached_start : (b : Book) (s : State) (buffer out : List ℕ) → Starts b → s ≡ awaiting b 0 0 → length buffer ≡ part_room → length out ≡ part_room → (s.goes_on ≡ true → Ready s buffer out) × Reached s buffer
 reached_start b s buffer out x e part sheet = (
   λ g. subst (λ (z : State). Ready z buffer out) (sym e)
       (record { given = record { sound = x.wf; part = part; sheet = omega (arith, sheet) }; range = omega arith; within = omega arith; room_left = λ o. omega (arith, part); why = inl refl }),
-  subst (λ (z : State). Reached z buffer) (sym e) (record { file = []; text = []; course = begins x; unlaid = λ z. refl }),
+  subst (λ (z : State). Reached z buffer) (sym e) (record { file = []; text = []; course = begins x }),
 )
 
 module _ (s : State) (before : List ℕ) (t : State) (after out : List ℕ) (r : State) where
   one_more : Reached s before → s.goes_on ≡ true → Turns s.laid (left s before) t after out → Reached t after
-  one_more x g (turn.interrupted y) = record { file = x.file; text = x.text; course = interrupted x.course g y; unlaid = λ z. ap (λ (q : State). q.levels) y.same }
-  one_more x g (turn.lays_part y) = record { file = x.file ++ read_behind (left s before) t after; text = x.text ++ laid_by t out; course = lays_part x.course g y; unlaid = λ z. y.unlaid }
-  one_more x g (turn.ends n y) = record { file = x.file; text = x.text ++ laid_by t out; course = ends x.course g n y; unlaid = λ z. y.unlaid }
+  one_more x g (turn.interrupted y) = record { file = x.file; text = x.text; course = interrupted x.course g y }
+  one_more x g (turn.lays_part y) = record { file = x.file ++ read_behind (left s before) t after; text = x.text ++ laid_by t out; course = lays_part x.course g y }
+  one_more x g (turn.ends n y) = record { file = x.file; text = x.text ++ laid_by t out; course = ends x.course g n y }
 
   turned : Reached s before → s.goes_on ≡ true → Turn s.laid (left s before) t after out → (failed : Bool) → t.failed ≡ failed → Reached t after
-  turned x g y true e = record { file = x.file; text = x.text; course = fails x.course (y.fails e); unlaid = λ z. absurd (true≢false (sym e ∙ z)) }
+  turned x g y true e = record { file = x.file; text = x.text; course = fails x.course (y.fails e) }
   turned x g y false e = one_more x g (y.turns e)
 
   pub reached_turn : Reached s before → s.goes_on ≡ true → Turn s.laid (left s before) t after out → (r ≡ t) ⊎ Failed r → (r.goes_on ≡ true → Ready r after out) × Reached r after
   reached_turn x g y w =
       let z = turned x g y t.failed refl in (
         λ h. ⊎_elim (λ e. subst (λ (q : State). Ready q after out) (sym e) (y.ready (sym (ap (λ (q : State). q.goes_on) e) ∙ h))) (λ f. absurd (true≢false (sym h ∙ f.over))) w,
-        ⊎_elim (λ e. subst (λ (q : State). Reached q after) (sym e) z) (λ f. record { file = z.file; text = z.text; course = fails z.course f; unlaid = λ q. absurd (true≢false (sym f.failed ∙ q)) }) w,
+        ⊎_elim (λ e. subst (λ (q : State). Reached q after) (sym e) z) (λ f. record { file = z.file; text = z.text; course = fails z.course f }) w,
       )
 
 -- ---- the whole page: where a run came to its end and reported no error, what it laid is the printout of what it read
@@ -130,56 +127,15 @@ at_the_end {file} {text} {before} {out} {s} {r} f n e =
     ∙ ap (λ (v : View). texts_of second start_view 0 f.passed ++ closing v index s.laid.answer) f.views
     ∙ sym (λ i. texts_of second start_view 0 (all.0 i) ++ closing (steps_of start_view (all.0 i)) index (all.1 i))
 
--- the state that was handed on there is the one after the last message
-last_view_lem : {file text : List ℕ} {r : State} {buffer : List ℕ} → Course file text r buffer → r.goes_on ≡ false → r.failed ≡ false → r.levels ≡ false → view r.laid.book ≡ last_view file
-last_view_lem (begins s) g h u = absurd (true≢false g)
-last_view_lem (interrupted p t x) g h u = absurd (true≢false (sym (ap (λ (s : State). s.goes_on) x.same) ∙ g))
-last_view_lem (lays_part p t x) g h u = absurd (true≢false (sym x.goes_on ∙ g))
-last_view_lem (ends p t n e) g h u = let f = so_far p t in ap view e.last ∙ f.views ∙ ap (steps_of start_view) (sym (all_passed f n).0)
-last_view_lem (lays_levels p t f n x) g h u = absurd (true≢false (sym x.laid ∙ u))
-last_view_lem (fails p f) g h u = absurd (true≢false (sym f.failed ∙ h))
-
-with_levels : (file : List ℕ) {text out : List ℕ} {s r : State} → text ≡ printout_with false file → view s.laid.book ≡ last_view file → LaysLevels s r out → text ++ laid_by r out ≡ printout_with true file
-unfolding printout_with
-with_levels file e v x = λ i. e i ++ (x.text ∙ ap (λ (w : View). levels_text w index) v) i
-
-pub whole_page : {file text : List ℕ} {r : State} {buffer : List ℕ} → Course file text r buffer → r.goes_on ≡ false → r.failed ≡ false → text ≡ printout_with r.levels file
-unfolding printout_with
+pub whole_page : {file text : List ℕ} {r : State} {buffer : List ℕ} → Course file text r buffer → r.goes_on ≡ false → r.failed ≡ false → text ≡ printout file
 whole_page (begins s) g h = absurd (true≢false g)
 whole_page (interrupted p t x) g h = absurd (true≢false (sym (ap (λ (s : State). s.goes_on) x.same) ∙ g))
 whole_page (lays_part p t x) g h = absurd (true≢false (sym x.goes_on ∙ g))
-whole_page (ends {file} p t n e) g h = at_the_end (so_far p t) n e ∙ ap (λ (b : Bool). printout_with b file) (sym e.unlaid)
-whole_page (lays_levels {file} p t f n x) g h =
-    with_levels file (whole_page p t f ∙ ap (λ (b : Bool). printout_with b file) n) (last_view_lem p t f n) x
-    ∙ ap (λ (b : Bool). printout_with b file) (sym x.laid)
+whole_page (ends p t n e) g h = at_the_end (so_far p t) n e
 whole_page (fails p f) g h = absurd (true≢false (sym f.failed ∙ h))
 
--- levels behind it by the option
-module _ (levels : Bool) (s : State) (buffer : List ℕ) (x : Reached s buffer) where
-  ran_so : {r : State} → r ≡ s → (s.goes_on ≡ false → s.failed ≡ false → s.levels ≡ levels) → Ran levels r
-  ran_so {r} e same = subst (Ran levels) (sym e) (record {
-    file = x.file;
-    text = x.text;
-    buffer = buffer;
-    course = x.course;
-    page = λ g h. (same g h, whole_page x.course g h ∙ ap (λ (b : Bool). printout_with b x.file) (same g h));
-  })
-
-  pub reached_ran : {r : State} → Behind levels s r → Ran levels r
-  reached_ran (turn.not_asked e q) = ran_so q (λ g h. x.unlaid h ∙ sym e)
-  reached_ran (turn.not_ended e q) = ran_so q (λ g h. absurd (true≢false (sym e ∙ g)))
-  reached_ran (turn.not_good e q) = ran_so q (λ g h. absurd (true≢false (sym e ∙ h)))
-  reached_ran {r} (turn.lays {out} e g h y) =
-      let c = lays_levels {after = buffer} x.course g h (x.unlaid h) y in
-      let same : r.levels ≡ levels = y.laid ∙ sym e in
-      record {
-        file = x.file;
-        text = x.text ++ laid_by r out;
-        buffer = buffer;
-        course = c;
-        page = λ o z. (same, whole_page c o z ∙ ap (λ (b : Bool). printout_with b x.file) same);
-      }
-  reached_ran (turn.fails f) = record { file = x.file; text = x.text; buffer = buffer; course = fails x.course f; page = λ g h. absurd (true≢false (sym f.failed ∙ h)) }
+pub reached_ran : (s : State) (buffer : List ℕ) → Reached s buffer → Ran s
+reached_ran s buffer x = record { file = x.file; text = x.text; buffer = buffer; course = x.course; page = whole_page x.course }
 
 -- so it does not hang on the cuts: in whatever parts a file is read, the printout is that of the file as one slice
 pub printout_in_parts : (ps : List (List ℕ)) → printout (flatten ps) ≡ printed_of index second start_view (walk_parts ps)
@@ -190,8 +146,3 @@ printout_in_parts ps = ap (printed_of index second start_view) (sym (cuts_do_not
 pub behind_a_small_size : (file rest : List ℕ) → (walk_of file 0).answer ≡ 2 → printout (file ++ rest) ≡ printout file
 unfolding printout
 behind_a_small_size file rest two = ap (printed_of index second start_view) (small_ends_the_file file rest two)
-
-pub levels_behind_a_small_size : (levels : Bool) (file rest : List ℕ) → (walk_of file 0).answer ≡ 2 → printout_with levels (file ++ rest) ≡ printout_with levels file
-unfolding printout_with
-levels_behind_a_small_size false file rest two = behind_a_small_size file rest two
-levels_behind_a_small_size true file rest two = λ i. behind_a_small_size file rest two i ++ levels_text (steps_of start_view (small_ends_the_file file rest two i).messages) index

@@ -1,6 +1,5 @@
--- The printout of an empty file, with levels too, and of single bad messages, and what words ask for, by computation.
-use mathlib.Core.Bool.{true, false}
-use mathlib.Core.List.{List, [], ◌∷◌, ◌++◌}
+-- The printout of an empty file and of single bad messages, by computation.
+use mathlib.Core.List.{List, [], ◌∷◌}
 use mathlib.Core.Path.{◌≡◌, refl}
 use Prim.Native.Nat.{ℕ}
 use Rattle.places.specs.Places.{first_where, tabulate, fold, sum_by}
@@ -12,27 +11,19 @@ use Rattle.wire.specs.Reading.{reach_by, reach_of, read_by, read_body, read_size
 use Rattle.symbols.specs.State.{place_of, found_in, vacancy_of, padded_name}
 use Rattle.symbols.specs.Registering.{name_bad, registered, told_of}
 use Rattle.orders.specs.Levels.{level_of}
-use Rattle.orders.specs.Rows.{row_after, rows_from, side_rows}
 use Rattle.book.specs.Registering.{told_in}
 use Rattle.book.specs.Quote.{quote_of}
-use Rattle.book.specs.Depth.{depth_of}
 use Rattle.book.specs.Step.{step_of}
 use Rattle.book.specs.Walk.{walk_for, walk_of, steps_of}
 use Rattle.columns.specs.Text.{digits_by, digits}
 use Rattle.columns.specs.Columns.{rendered}
 use Rattle.page.specs.Marked.{ascii}
 use Rattle.page.specs.Printout.{passed_text, texts_of, end_text, quote_text, closing, printed_of}
-use Rattle.page.specs.Levels.{row_text, rows_text, depth_text, levels_text}
-use Rattle.painterend.specs.Program.{start_view, printout, printout_with}
-use Rattle.painterend.specs.Options.{same_bytes, no_options, asked_by}
+use Rattle.painterend.specs.Program.{start_view, printout}
 
 pub empty_file : printout [] ≡ ascii "E,1\nQ,,,,\n"
 unfolding printout printed_of texts_of closing end_text quote_text rendered digits_by digits walk_for walk_of steps_of reach_by reach_of start_view registered name_bad place_of found_in vacancy_of padded_name tabulate first_where told_in told_of quote_of level_of fold sum_by
 empty_file = refl
-
-pub empty_file_with_levels : printout_with true [] ≡ ascii "E,1\nQ,,,,\n" ++ (ascii "D,B,,,\nD,B,,,\nD,B,,,\nD,B,,,\nD,B,,,\nD,B,,,\nD,B,,,\nD,B,,,\nD,B,,,\nD,B,,,\n" ++ ascii "D,S,,,\nD,S,,,\nD,S,,,\nD,S,,,\nD,S,,,\nD,S,,,\nD,S,,,\nD,S,,,\nD,S,,,\nD,S,,,\n")
-unfolding printout_with printout printed_of texts_of closing end_text quote_text rendered digits_by digits walk_for walk_of steps_of reach_by reach_of start_view registered name_bad place_of found_in vacancy_of padded_name tabulate first_where told_in told_of quote_of level_of fold sum_by levels_text depth_text rows_text row_text depth_of side_rows rows_from row_after
-empty_file_with_levels = refl
 
 -- an add of 200 shares whose side, at 32, is neither letter
 abbrev bad_side : List ℕ
@@ -49,16 +40,3 @@ in_cash = 42 ∷ 0 ∷ 103 ∷ 0 ∷ 125 ∷ 0 ∷ 0 ∷ 0 ∷ 7 ∷ 0 ∷ 0 ∷
 pub cash_file : printout in_cash ≡ ascii "R,4,1,38\nE,1\nQ,,,,\n"
 unfolding listed printout printed_of passed_text texts_of closing end_text quote_text rendered digits_by digits value shape_of first_bad fault_of reach_by reach_of read_by read_body read_sized read_shape read_typed read_reached read_of step_of walk_for walk_of steps_of start_view registered name_bad place_of found_in vacancy_of padded_name tabulate first_where told_in told_of quote_of level_of fold sum_by
 cash_file = refl
-
--- words before the file's name
-pub asked_twice : asked_by no_options (ascii "--levels" ∷ ascii "--levels" ∷ []) ≡ record { levels = true; bad = false }
-unfolding asked_by same_bytes
-asked_twice = refl
-
-pub asked_badly : asked_by no_options (ascii "--levels" ∷ ascii "--level" ∷ []) ≡ record { levels = true; bad = true }
-unfolding asked_by same_bytes
-asked_badly = refl
-
-pub an_empty_word : asked_by no_options ([] ∷ []) ≡ record { levels = false; bad = true }
-unfolding asked_by same_bytes
-an_empty_word = refl

@@ -1,6 +1,5 @@
 pub mod Readiness
 pub mod Courses
-pub mod Asking
 pub mod Passed
 pub mod Printing
 pub mod Examples

@@ -12,12 +12,12 @@ use Rattle.std.specs.Io.KnownBytes.{Appends, Consumes, IsAtEnd}
 use Rattle.std.proofs.KnownBytes.{Appends-nil, Appends-trans, Consumes-nil, Consumes-trans}
 use Rattle.book.specs.declared.Book.{Book}
 use Rattle.book.specs.Walk.{walk_of}
-use Rattle.painterend.specs.Program.{Starts, printout_with}
+use Rattle.painterend.specs.Program.{Starts, printout}
 use Rattle.painterend.specs.Turn as turn
-use Rattle.painterend.specs.Turn.{left, awaiting, read_behind, Failed, Ready, Turns, Turn, Reads, Writes, LaysLevels, Adds}
-use Rattle.painterend.specs.Course.{laid_by, begins, interrupted, lays_part, ends, lays_levels, fails, Prints}
+use Rattle.painterend.specs.Turn.{left, awaiting, read_behind, Failed, Ready, Turns, Turn, Reads, Writes}
+use Rattle.painterend.specs.Course.{laid_by, begins, interrupted, lays_part, ends, fails, Prints}
 use Rattle.painterend.specs.declared.turns.State.{State}
-use Rattle.painterend.proofs.Courses.{Reached, so_far, all_passed, whole_page, levels_behind_a_small_size}
+use Rattle.painterend.proofs.Courses.{Reached, so_far, all_passed, whole_page, behind_a_small_size}
 use Rattle.painterend.proofs.Passed.{nothing_behind}
 
 -- all that the printout hangs on was read
@@ -37,7 +37,7 @@ pub record Printing (s : State) (buffer : List ℕ) (unread rest page paper : Op
 
 pub printing_start : (b : Book) (s : State) (buffer : List ℕ) (unread page : Option (List ℕ)) → Starts b → s ≡ awaiting b 0 0 → Printing s buffer unread unread page page
 printing_start b s buffer unread page x e = subst (λ (z : State). Printing z buffer unread unread page page) (sym e) (record {
-  reached = record { file = []; text = []; course = begins x; unlaid = λ z. refl };
+  reached = record { file = []; text = []; course = begins x };
   reads = Consumes-nil unread;
   written = [];
   unwritten = [];
@@ -66,19 +66,19 @@ module _ (s : State) (before : List ℕ) (t : State) (after out sheet : List ℕ
   by_turn : Turns s.laid (left s before) t after out → Turned t after x.text out unread rest
   by_turn (turn.interrupted z) =
       let on : t.goes_on ≡ true = ap (λ (q : State). q.goes_on) z.same in record {
-        reached = record { file = x.file; text = x.text; course = interrupted x.course g z; unlaid = λ q. ap (λ (p : State). p.levels) z.same };
+        reached = record { file = x.file; text = x.text; course = interrupted x.course g z };
         reads = as_before (subst (Consumes mid rest) (nothing_behind (length (left s before)) t.full after (ap (λ (q : State). q.full) z.same)) (y.takes on));
         lays = nothing_laid (ap (λ (q : State). q.laid.count) z.same);
         over = λ q. absurd (true≢false (sym on ∙ q));
       }
   by_turn (turn.lays_part z) = record {
-    reached = record { file = x.file ++ read_behind (left s before) t after; text = x.text ++ laid_by t out; course = lays_part x.course g z; unlaid = λ q. z.unlaid };
+    reached = record { file = x.file ++ read_behind (left s before) t after; text = x.text ++ laid_by t out; course = lays_part x.course g z };
     reads = Consumes-trans unread mid rest x.file (read_behind (left s before) t after) reads (y.takes z.goes_on);
     lays = refl;
     over = λ q. absurd (true≢false (sym z.goes_on ∙ q));
   }
   by_turn (turn.ends n z) = record {
-    reached = record { file = x.file; text = x.text ++ laid_by t out; course = ends x.course g n z; unlaid = λ q. z.unlaid };
+    reached = record { file = x.file; text = x.text ++ laid_by t out; course = ends x.course g n z };
     reads = as_before (y.stops z.over);
     lays = refl;
     over = λ q h. ⊎_elim (λ one. inl (y.ended q h one)) (⊎_elim (λ two. inr ((all_passed (so_far x.course g) n).1 ∙ two)) (λ e. absurd (n e))) ready.why;
@@ -86,7 +86,7 @@ module _ (s : State) (before : List ℕ) (t : State) (after out sheet : List ℕ
 
   turned : Turn s.laid (left s before) t after out → (failed : Bool) → t.failed ≡ failed → Turned t after x.text out unread rest
   turned z true e = let f = z.fails e in record {
-    reached = record { file = x.file; text = x.text; course = fails x.course f; unlaid = λ q. absurd (true≢false (sym e ∙ q)) };
+    reached = record { file = x.file; text = x.text; course = fails x.course f };
     reads = as_before (y.stops f.over);
     lays = nothing_laid f.none;
     over = λ q h. absurd (true≢false (sym e ∙ h));
@@ -121,7 +121,7 @@ module _ (t : State) (out text : List ℕ) (r : State) (page ink paper : Option 
         over = z.over;
       }))
       (λ f. record {
-        reached = record { file = z.reached.file; text = z.reached.text; course = fails z.reached.course f; unlaid = λ q. absurd (true≢false (sym f.failed ∙ q)) };
+        reached = record { file = z.reached.file; text = z.reached.text; course = fails z.reached.course f };
         reads = z.reads;
         written = text ++ take w.count out;
         unwritten = drop w.count (laid_by t out);
@@ -144,64 +144,22 @@ printing_turn s before t after out sheet r unread mid rest page ink paper p g re
 
 -- ---- the whole run
 -- where all of the page is written, it is the printout of all that the file had left
-whole_file : (levels : Bool) (file text : List ℕ) (unread rest page paper : Option (List ℕ)) → text ≡ printout_with levels file → Consumes unread rest file → Whole file rest → Appends page paper text
-    → IfSome unread (λ xs. Appends page paper (printout_with levels xs))
-whole_file levels file text None rest page paper e c w a = tt
-whole_file levels file text (Some xs) None page paper e c w a = absurd c
-whole_file levels file text (Some xs) (Some ys) page paper e c w a = subst (Appends page paper) (e ∙ sym same) a
+whole_file : (file text : List ℕ) (unread rest page paper : Option (List ℕ)) → text ≡ printout file → Consumes unread rest file → Whole file rest → Appends page paper text
+    → IfSome unread (λ xs. Appends page paper (printout xs))
+whole_file file text None rest page paper e c w a = tt
+whole_file file text (Some xs) None page paper e c w a = absurd c
+whole_file file text (Some xs) (Some ys) page paper e c w a = subst (Appends page paper) (e ∙ sym same) a
   where
-    same : printout_with levels xs ≡ printout_with levels file
-    same = ap (printout_with levels) c ∙ ⊎_elim (λ z. ap (λ (l : List ℕ). printout_with levels (file ++ l)) z ∙ ap (printout_with levels) (append-nil file)) (λ two. levels_behind_a_small_size levels file ys two) w
+    same : printout xs ≡ printout file
+    same = ap printout c ∙ ⊎_elim (λ z. ap (λ (l : List ℕ). printout (file ++ l)) z ∙ ap printout (append-nil file)) (λ two. behind_a_small_size file ys two) w
 
-module _ (levels : Bool) (s : State) (buffer : List ℕ) (unread rest page ink paper : Option (List ℕ)) (p : Printing s buffer unread rest page ink) where
-  stays : {r : State} → r ≡ s → Appends ink paper [] → (s.goes_on ≡ false → s.failed ≡ false → s.levels ≡ levels) → Prints levels r unread rest page paper
-  stays {r} e none same = subst (λ (q : State). Prints levels q unread rest page paper) (sym e) (record {
-    ran = record {
-      file = p.reached.file;
-      text = p.reached.text;
-      buffer = buffer;
-      course = p.reached.course;
-      page = λ g h. (same g h, printed g h);
-    };
-    reads = p.reads;
-    written = p.written;
-    unwritten = p.unwritten;
-    laid = p.laid;
-    writes = as_before p.written p.writes;
-    whole = λ g h. whole_file levels p.reached.file p.reached.text unread rest page paper (printed g h) p.reads (p.over g h) (as_before p.reached.text (p.all h));
-  })
-    where
-      printed : s.goes_on ≡ false → s.failed ≡ false → p.reached.text ≡ printout_with levels p.reached.file
-      printed g h = whole_page p.reached.course g h ∙ ap (λ (b : Bool). printout_with b p.reached.file) (same g h)
-
-      as_before : (text : List ℕ) → Appends page ink text → Appends page paper text
-      as_before text a = subst (Appends page paper) (append-nil text) (Appends-trans page ink paper text [] a none)
-
-  pub printing_ends : {r : State} → Adds levels s r ink paper → Prints levels r unread rest page paper
-  printing_ends (turn.nothing why e none) = stays e none (λ g h. ⊎_elim (λ no. p.reached.unlaid h ∙ sym no) (⊎_elim (λ on. absurd (true≢false (sym on ∙ g))) (λ bad. absurd (true≢false (sym bad ∙ h)))) why)
-  printing_ends {r} (turn.levels {t} {out} asked g h y state w) =
-      let text = p.reached.text in
-      let c = lays_levels {after = buffer} p.reached.course g h (p.reached.unlaid h) y in
-      let so = p.all h in
-      let same : t.levels ≡ levels = y.laid ∙ sym asked in
-      let printed : text ++ laid_by t out ≡ printout_with levels p.reached.file = whole_page c y.over y.good ∙ ap (λ (b : Bool). printout_with b p.reached.file) same in
-      ⊎_elim
-      (λ e. subst (λ (q : State). Prints levels q unread rest page paper) (sym e) (record {
-        ran = record { file = p.reached.file; text = text ++ laid_by t out; buffer = buffer; course = c; page = λ o q. (same, printed) };
-        reads = p.reads;
-        written = text ++ take w.count out;
-        unwritten = drop w.count (laid_by t out);
-        laid = joined t out text r page ink paper so w;
-        writes = some_written t out text r page ink paper so w;
-        whole = λ o q. whole_file levels p.reached.file (text ++ laid_by t out) unread rest page paper printed p.reads (p.over g h) (all_written t out text r page ink paper so w (ap (λ (z : State). z.failed) e ∙ q));
-      }))
-      (λ f. record {
-        ran = record { file = p.reached.file; text = text ++ laid_by t out; buffer = buffer; course = fails c f; page = λ o q. absurd (true≢false (sym f.failed ∙ q)) };
-        reads = p.reads;
-        written = text ++ take w.count out;
-        unwritten = drop w.count (laid_by t out);
-        laid = joined t out text r page ink paper so w;
-        writes = some_written t out text r page ink paper so w;
-        whole = λ o q. absurd (true≢false (sym f.failed ∙ q));
-      })
-      state
+pub printing_ends : (s : State) (buffer : List ℕ) (unread rest page paper : Option (List ℕ)) → Printing s buffer unread rest page paper → Prints s unread rest page paper
+printing_ends s buffer unread rest page paper p = record {
+  ran = record { file = p.reached.file; text = p.reached.text; buffer = buffer; course = p.reached.course; page = whole_page p.reached.course };
+  reads = p.reads;
+  written = p.written;
+  unwritten = p.unwritten;
+  laid = p.laid;
+  writes = p.writes;
+  whole = λ g h. whole_file p.reached.file p.reached.text unread rest page paper (whole_page p.reached.course g h) p.reads (p.over g h) (p.all h);
+}

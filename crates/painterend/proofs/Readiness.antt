@@ -16,6 +16,7 @@ use Rattle.wire.specs.Writing.{Write, count_of}
 use Rattle.wire.specs.RoundTrip.{Bytes}
 use Rattle.wire.proofs.Answers.{reach_refuses}
 use Rattle.book.specs.State.{view}
+use Rattle.columns.specs.Held.{room}
 use Rattle.book.specs.Walk.{Walk}
 use Rattle.page.specs.Printing.{printed_as, printed, laid}
 use Rattle.page.specs.Laying.{lay_of, Lays}
@@ -74,7 +75,7 @@ module _ (l : Laid) (size : ℕ) (buffer sheet : List ℕ) (x : Laid) (out : Lis
       go true e = inl (eqb-true a 1 e)
       go false e = let ne = eqb-false a 1 e in inr (inl (omega (arith, ne, least, most)))
 
-  pub filled_laid : LaysFilled l size buffer sheet (record { laid = x; full = size; goes_on = true; failed = false; levels = false }) out
+  pub filled_laid : LaysFilled l size buffer sheet (record { laid = x; full = size; goes_on = true; failed = false }) out
   filled_laid =
       let o = lays.obeys (omega arith) g.sound in
       let text = (lay_of second (length sheet) (view l.book) (take size buffer) 0 l.place).sheet.text in
@@ -83,7 +84,6 @@ module _ (l : Laid) (size : ℕ) (buffer sheet : List ℕ) (x : Laid) (out : Lis
         lays = lays;
         goes_on = refl;
         good = refl;
-        unlaid = refl;
         ready = record {
           given = record { sound = o.wf; part = g.part; sheet = omega (arith, same, g.sheet) };
           range = moved;
@@ -94,10 +94,10 @@ module _ (l : Laid) (size : ℕ) (buffer sheet : List ℕ) (x : Laid) (out : Lis
         count = omega (arith, o.count, ap length o.out, length-append text (drop (length text) sheet));
       }
 
--- ---- the end, or what stands behind it, is laid
-pub text_laid : (text before out : List ℕ) (p : Printed) (n : ℕ) → length text ≤ length before → printed p out ≡ laid text before → n ≡ count_of (printed_as p).outcome → (take n out ≡ text) × (n ≤ length out)
-text_laid text before out p n fits e count =
-    let whole = e ∙ laid_fits text before fits in
+-- ---- the end is laid
+pub end_laid : (text before out : List ℕ) (p : Printed) (n : ℕ) → length text ≤ room → room ≤ length before → printed p out ≡ laid text before → n ≡ count_of (printed_as p).outcome → (take n out ≡ text) × (n ≤ length out)
+end_laid text before out p n short long e count =
+    let whole = e ∙ laid_fits text before (omega (arith, short, long)) in
     let bytes : out ≡ text ++ drop (length text) before = ap (λ (w : Write). w.out) whole in
     let size : n ≡ length text = count ∙ ap (λ (w : Write). count_of w.outcome) whole in
     (ap (take n) bytes ∙ take_at text (drop (length text) before) n (sym size), omega (arith, size, ap length bytes, length-append text (drop (length text) before)))
@@ -129,7 +129,6 @@ module _ (l : Laid) (bytes : List ℕ) (r : State) (after out : List ℕ) where
       unread = λ other. x.full ∙ unread other ∙ sym f.long;
       lays = rw x.full x.lays;
       goes_on = x.goes_on;
-      unlaid = x.unlaid;
     });
     ready = λ g. x.ready;
     count = x.count;

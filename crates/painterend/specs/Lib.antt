@@ -1,4 +1,3 @@
 pub mod Program
-pub mod Options
 pub mod Turn
 pub mod Course

@@ -7,7 +7,6 @@ use Rattle.book.specs.State.{view, Wf}
 use Rattle.book.specs.declared.Book.{Book}
 use Rattle.columns.specs.Held.{room}
 use Rattle.page.specs.Printout.{closing}
-use Rattle.page.specs.Levels.{levels_text}
 use Rattle.page.specs.Laying.{Lays}
 use Rattle.page.specs.declared.laying.Laid.{Laid}
 use Rattle.parts.specs.Parts.{part_room}
@@ -21,7 +20,7 @@ left s buffer = slice s.laid.at s.full buffer
 
 -- so many bytes are at the front of the buffer, and more is to be read behind them
 abbrev pub awaiting : Book → ℕ → ℕ → State
-awaiting b place kept = record { laid = record { book = b; at = 0; place = place; count = 0; answer = 1 }; full = kept; goes_on = true; failed = false; levels = false }
+awaiting b place kept = record { laid = record { book = b; at = 0; place = place; count = 0; answer = 1 }; full = kept; goes_on = true; failed = false }
 
 -- an error was reported: nothing more is printed
 pub record Failed (r : State) : Type 0 where
@@ -81,7 +80,6 @@ pub record LaysPart (l : Laid) (bytes : List ℕ) (r : State) (after out : List 
   pub unread : l.answer ≢ 1 → r.full ≡ length bytes
   pub lays : Lays l.book (take r.full after) 0 l.place second sheet r.laid out
   pub goes_on : r.goes_on ≡ true
-  pub unlaid : r.levels ≡ false
 
 -- the file ended, or a Msg Size below 4 was met: the end is laid, with the answer that stopped the walk and the quote of the last state
 pub record Ends (l : Laid) (r : State) (out : List ℕ) : Type 0 where
@@ -89,8 +87,6 @@ pub record Ends (l : Laid) (r : State) (out : List ℕ) : Type 0 where
   pub within : r.laid.count ≤ length out
   pub over : r.goes_on ≡ false
   pub good : r.failed ≡ false
-  pub last : r.laid.book ≡ l.book
-  pub unlaid : r.levels ≡ false
 
 pub data Turns (l : Laid) (bytes : List ℕ) (r : State) (after out : List ℕ) : Type 0 where
   interrupted : Interrupted l bytes r after → Turns l bytes r after out
@@ -128,7 +124,6 @@ pub record LaysFilled (l : Laid) (size : ℕ) (buffer sheet : List ℕ) (r : Sta
   pub lays : Lays l.book (take size buffer) 0 l.place second sheet r.laid out
   pub goes_on : r.goes_on ≡ true
   pub good : r.failed ≡ false
-  pub unlaid : r.levels ≡ false
   pub ready : Ready r buffer out
   pub count : r.laid.count ≤ length out
 
@@ -142,25 +137,3 @@ pub record Heeds (f : Filled) (l : Laid) (kept : ℕ) (buffer sheet : List ℕ) 
   pub unread : has_failed f ≡ true → Unread l kept r
   pub ended : has_failed f ≡ false → f.full ≡ kept → Ends l r out
   pub filled : has_failed f ≡ false → f.full ≢ kept → LaysFilled l f.full buffer sheet r out
-
--- ---- behind the end
--- the levels of the last state, once
-pub record LaysLevels (s : State) (r : State) (out : List ℕ) : Type 0 where
-  pub text : take r.laid.count out ≡ levels_text (view s.laid.book) index
-  pub within : r.laid.count ≤ length out
-  pub over : r.goes_on ≡ false
-  pub good : r.failed ≡ false
-  pub laid : r.levels ≡ true
-
--- they are laid where they were asked for and the end is laid; what can't be written is reported
-pub data Behind (levels : Bool) (s r : State) : Type 0 where
-  not_asked : levels ≡ false → r ≡ s → Behind levels s r
-  not_ended : s.goes_on ≡ true → r ≡ s → Behind levels s r
-  not_good : s.failed ≡ true → r ≡ s → Behind levels s r
-  lays : {out : List ℕ} → levels ≡ true → s.goes_on ≡ false → s.failed ≡ false → LaysLevels s r out → Behind levels s r
-  fails : Failed r → Behind levels s r
-
--- and of what was laid there came behind the page what could be written
-pub data Adds (levels : Bool) (s r : State) (page paper : Option (List ℕ)) : Type 0 where
-  nothing : (levels ≡ false) ⊎ ((s.goes_on ≡ true) ⊎ (s.failed ≡ true)) → r ≡ s → Appends page paper [] → Adds levels s r page paper
-  levels : {t : State} {out : List ℕ} → levels ≡ true → s.goes_on ≡ false → s.failed ≡ false → LaysLevels s t out → (r ≡ t) ⊎ Failed r → Writes t r out page paper → Adds levels s r page paper

@@ -1,10 +1,8 @@
-// The bureau's program: it reads a file of messages, part by part, and prints lines, refusals and the last quote, and where they are asked for the last levels.
+// The bureau's program: it reads a file of messages, part by part, and prints lines, refusals and the last quote.
 //
 // What is printed stands in `page`, how leftovers open the next part in `parts`. Here are the file and the order of things: fill, lay, write, carry.
 #![tactic(auto)]
 
-mod levels;
-mod options;
 mod output;
 mod turns;
 
@@ -14,11 +12,9 @@ ghost use Rattle.painterend.specs.Program.{Starts};
 ghost use Rattle.painterend.specs.Course.{Ran, Prints};
 
 use book::Book;
-use levels::behind;
 use markets::Market;
-use options::{NAME_ROOM, Options, count_of_words, heard_before, is_levels};
 use output::{fail, written};
-use std::env::Env;
+use std::env::{Env, FillError};
 use std::fs::{File, Files};
 use std::io;
 use std::io::{Eprint, Print, Read, Write};
@@ -28,6 +24,9 @@ const SCALE: u8 = 4;
 
 // A part has at most 64 KiB, with the bytes that open it.
 const PART: usize = 65536;
+
+// As long as the system lets a name be.
+const NAME_ROOM: usize = 4096;
 
 // What the system calls a name that is too long, and bytes that are no text.
 const ENAMETOOLONG: i32 = 36;
@@ -51,15 +50,9 @@ fn start() -> Book
 }
 
 // A proved loop has to end, and nothing says that a file does: the turns are counted down from a number that no run uses up.
-fn all_parts<R: Eprint, F: Read, P: Write>(
-    rt: &R,
-    file: &mut F,
-    path: &str,
-    paper: &mut P,
-    o: Options,
-) -> State
-    ensures ran { Ran o.levels result }
-    ensures prints { Prints o.levels result (F.remaining file.old) (F.remaining file.new) (P.contents paper.old) (P.contents paper.new) }
+fn all_parts<R: Eprint, F: Read, P: Write>(rt: &R, file: &mut F, path: &str, paper: &mut P) -> State
+    ensures ran { Ran result }
+    ensures prints { Prints result (F.remaining file.old) (F.remaining file.new) (P.contents paper.old) (P.contents paper.new) }
 {
     let mut space = part_room();
     let buffer: &mut [u8] = &mut space;
@@ -72,45 +65,40 @@ fn all_parts<R: Eprint, F: Read, P: Write>(
         s = written(rt, paper, out, s);
         turns -= 1;
     }
-    behind(rt, paper, o.levels, s, out)
+    s
 }
 
-// What a start with other words gets.
-fn usage<R: Eprint>(rt: &R) {
-    let _ = eprintln!(rt; "painterend: name a file of messages, as in: painterend [--levels] FILE");
-}
-
-// An option in the file's place names none.
-fn print<R: Files + Print + Eprint>(rt: &R, path: &str, o: Options) {
-    if is_levels(path.as_bytes()) {
-        usage(rt);
-        return;
-    }
+fn print<R: Files + Print + Eprint>(rt: &R, path: &str) {
     match File::open(rt, path) {
         Ok(mut file) => {
             let mut paper = io::writer(rt);
-            all_parts(rt, &mut file, path, &mut paper, o);
+            all_parts(rt, &mut file, path, &mut paper);
         }
         Err(e) => fail(rt, path, e),
     }
 }
 
+// How many words there are, with the program's own name.
+fn count_of_words<E: Env>(words: &E) -> usize {
+    for i in 0..usize::MAX {
+        let mut word = [0u8; NAME_ROOM];
+        match words.arg(i, &mut word) {
+            Err(FillError::NotPresent) => return i,
+            _ => {}
+        }
+    }
+    usize::MAX
+}
+
 // The file's name has to be text, since std opens no other.
 fn main(rt: HostRuntime) {
-    let count = count_of_words(&rt);
-    if count < 2 {
-        usage(&rt);
-        return;
-    }
-    let last = count - 1;
-    let o = heard_before(&rt, last);
-    if o.bad {
-        usage(&rt);
+    if count_of_words(&rt) != 2 {
+        let _ = eprintln!(rt; "painterend: name a file of messages, as in: painterend FILE");
         return;
     }
     let mut space = [0u8; NAME_ROOM];
     let name: &mut [u8] = &mut space;
-    let Ok(n) = rt.arg(last, name) else {
+    let Ok(n) = rt.arg(1, name) else {
         fail(
             &rt,
             "painterend: the file's name",
@@ -119,7 +107,7 @@ fn main(rt: HostRuntime) {
         return;
     };
     match std::str::from_utf8(&name[..n]) {
-        Ok(path) => print(&rt, path, o),
+        Ok(path) => print(&rt, path),
         Err(_) => fail(
             &rt,
             "painterend: the file's name",

@@ -1,6 +1,7 @@
 // Writing what was laid to standard output, and what failed to standard error.
-ghost use Rattle.std.specs.Prelude.{◌⊎◌, ◌≡◌, ◌≤◌, length, take, Err, IsOk};
+ghost use Rattle.std.specs.Prelude.{◌⊎◌, ◌≡◌, ◌≤◌, ◌↔◌, length, take, Err, IsOk, IsTrue};
 ghost use Rattle.std.specs.Io.KnownBytes.{Appends};
+ghost use Rattle.std.specs.IoError.{error_kind};
 ghost use Rattle.painterend.specs.Turn.{Failed, Writes};
 
 use crate::turns::{State, failing};
@@ -77,7 +78,9 @@ fn stopped(count: usize, e: io::Error) -> Taken
 }
 
 // Was it a signal that stopped the read or the write?
-pub(crate) fn again(e: io::Error) -> bool {
+pub(crate) fn again(e: io::Error) -> bool
+    ensures { IsTrue result ↔ (error_kind e ≡ ErrorKind.Interrupted) }
+{
     e.kind() == ErrorKind::Interrupted
 }
 

@@ -1,6 +1,7 @@
 // One turn: the bytes that are left go to the front, a read fills the buffer behind them, and the texts of what is there are laid; or the end is.
-ghost use Rattle.std.specs.Prelude.{◌≡◌, ◌≤◌, ◌<◌, false, length, take, drop};
+ghost use Rattle.std.specs.Prelude.{◌≡◌, ◌≤◌, ◌<◌, ◌↔◌, IsFalse, false, length, take, drop};
 ghost use Rattle.std.specs.Io.KnownBytes.{Consumes, IsAtEnd};
+ghost use Rattle.std.specs.IoError.{error_kind};
 ghost use Rattle.columns.specs.Held.{room};
 ghost use Rattle.painterend.specs.Turn.{left, awaiting, Failed, told, has_failed, Counted, Brings, Reads, Given, Ends, Ready, LaysFilled, Unread, Heeds, Turn};
 
@@ -9,7 +10,7 @@ use book::Book;
 use page::Laid;
 use parts::carry;
 use std::io;
-use std::io::{Eprint, Read};
+use std::io::{Eprint, ErrorKind, Read};
 
 // The index of the symbol that is registered.
 pub(crate) const INDEX: u32 = 7;
@@ -20,15 +21,13 @@ const SECOND: u32 = 34200;
 // A laying that ended for want of room.
 const NO_ROOM: u8 = 15;
 
-// Between two turns: what the last one laid, how many bytes of the buffer are filled, whether there is more to do, whether an error was reported, and whether levels
-// are laid behind the end.
+// Between two turns: what the last one laid, how many bytes of the buffer are filled, whether there is more to do, and whether an error was reported.
 #[derive(Clone, Copy)]
 pub(crate) struct State {
     pub(crate) laid: Laid,
     pub(crate) full: usize,
     pub(crate) goes_on: bool,
     pub(crate) failed: bool,
-    pub(crate) levels: bool,
 }
 
 // With so many bytes at the front of the buffer, and more to be read behind them.
@@ -47,7 +46,6 @@ pub(crate) fn reading(book: Book, place: u64, kept: usize) -> State
         full: kept,
         goes_on: true,
         failed: false,
-        levels: false,
     }
 }
 
@@ -62,7 +60,6 @@ pub(crate) fn failing(l: Laid) -> State
         full: 0,
         goes_on: false,
         failed: true,
-        levels: false,
     }
 }
 
@@ -103,7 +100,8 @@ fn counted(got: io::Result<usize>, kept: usize, buffer: &[u8]) -> Filled
 
 // Where a read failed: it is made again if a signal interrupted it, and else reported.
 fn unread<R: Eprint>(rt: &R, e: io::Error, path: &str, l: Laid, kept: usize) -> State
-    ensures { Unread l kept result }
+    ensures state { Unread l kept result }
+    ensures again { IsFalse result.failed ↔ (error_kind e ≡ ErrorKind.Interrupted) }
 {
     if again(e) {
         let b = l.book;
@@ -125,7 +123,6 @@ fn lay_filled(l: Laid, buffer: &[u8], full: usize, out: &mut [u8]) -> State
         full,
         goes_on: true,
         failed: false,
-        levels: false,
     }
 }
 
@@ -143,7 +140,6 @@ fn lay_ending(l: Laid, out: &mut [u8]) -> State
         full: 0,
         goes_on: false,
         failed: false,
-        levels: false,
     }
 }
 

@@ -1,4 +1,4 @@
--- Each turn of the loop is a turn of a course, and leaves the next one ready. Behind them the levels are laid by the option.
+-- Each turn of the loop is a turn of a course, and leaves the next one ready.
 use borrow.Author.Rules.{rules}
 use Rattle.painterend.proofs.Courses.{reached_start, reached_turn, reached_ran}
 use Rattle.painterend.proofs.Printing.{printing_start, printing_turn, printing_ends}
@@ -15,8 +15,8 @@ loop-turns-preserved g c =
     let x = reached_turn _ _ _ _ _ _ p.reached c.if-s.true c.turn-s.ensures.turn c.written-s.ensures.state in
     (search rules, search rules, x.0, printing_turn _ _ _ _ _ _ _ _ _ _ _ _ _ p c.if-s.true (c.loop-turns.invariant.2 c.if-s.true) c.turn-s.ensures.turn c.turn-s.ensures.reads c.written-s.ensures.state c.written-s.ensures.bytes)
 
-pub returns-clause-ran : goal.returns-clause-ran
-returns-clause-ran g c = reached_ran _ _ _ c.loop-turns.invariant.3.reached c.behind.ensures.behind
+pub returns-else-s : goal.returns-else-s
+returns-else-s g c = record { ran = reached_ran _ _ c.loop-turns.invariant.3.reached; prints = printing_ends _ _ _ _ _ _ c.loop-turns.invariant.3 }
 
-pub returns-clause-prints : goal.returns-clause-prints
-returns-clause-prints g c = printing_ends _ _ _ _ _ _ _ _ c.loop-turns.invariant.3 c.behind.ensures.adds
+pub returns-after-loop-turns : goal.returns-after-loop-turns
+returns-after-loop-turns g c = record { ran = reached_ran _ _ c.loop-turns.invariant.3.reached; prints = printing_ends _ _ _ _ _ _ c.loop-turns.invariant.3 }
