@@ -4,6 +4,7 @@
 pub mod answer;
 pub mod book;
 mod cursor;
+pub mod depth;
 pub mod line;
 pub mod make;
 pub mod named;

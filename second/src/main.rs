@@ -9,21 +9,26 @@ use second::make::calls::{calls, CALL_KINDS};
 use second::make::feeds::{feed, FEED_KINDS};
 use second::named::Cases;
 use second::probe::probe;
-use second::program::painterend;
+use second::program::{painterend, painterend_levels};
 use second::vectors;
 
-const USAGE: &str = "usage: second painterend FILE
+const USAGE: &str = "usage: second painterend [--levels] FILE
        second probe FILE
        second feed SEED KIND COUNT
        second calls SEED KIND COUNT
        second named FOLDER
        second vectors INPUT EXPECTED";
 
+/// The option of the program: request M-106.
+const LEVELS: &str = "--levels";
+
 fn main() -> ExitCode {
     let arguments: Vec<String> = env::args().skip(1).collect();
     let words: Vec<&str> = arguments.iter().map(String::as_str).collect();
     let done = match words.as_slice() {
-        ["painterend", file] => print_file(file),
+        ["painterend", .., LEVELS] => Err(io::Error::other(USAGE)),
+        ["painterend", file] => print_file(file, false),
+        ["painterend", LEVELS, file] => print_file(file, true),
         ["probe", file] => fs::read(file).and_then(|calls| print(probe(&calls).as_bytes())),
         ["feed", seed, kind, count] => asked(&FEED_KINDS, seed, kind, count)
             .and_then(|(seed, kind, count)| print(&feed(seed, kind, count))),
@@ -42,10 +47,14 @@ fn main() -> ExitCode {
     }
 }
 
-fn print_file(file: &str) -> io::Result<()> {
+fn print_file(file: &str, levels: bool) -> io::Result<()> {
     let mut input = fs::File::open(file)?;
     let mut output = BufWriter::new(io::stdout().lock());
-    painterend(&mut input, &mut output)?;
+    if levels {
+        painterend_levels(&mut input, &mut output)?;
+    } else {
+        painterend(&mut input, &mut output)?;
+    }
     output.flush()
 }
 

@@ -5,6 +5,7 @@ use std::fmt::Write;
 use crate::answer::{number, offset_field, Refusal};
 use crate::book::Level;
 use crate::cursor::{hex, Cursor};
+use crate::depth::Row;
 use crate::line::line;
 use crate::reader::Reader;
 use crate::wire::{read, write, Market, Message};
@@ -118,6 +119,7 @@ fn call(reader: &mut Reader, cursor: &mut Cursor) -> Option<String> {
             Some(position_line('D', next, &message))
         }
         b'Q' => Some(quote_line(reader, cursor.u32()?)),
+        b'H' => Some(depth_line(reader, cursor.u32()?)),
         b'V' => Some(volume_line(reader, cursor.u32()?)),
         b'W' => {
             let nanoseconds = cursor.u32()?;
@@ -184,6 +186,26 @@ fn quote_line(reader: &Reader, index: u32) -> String {
                 let _ = write!(text, ",{price},{size}");
             }
             None => text.push_str(",,"),
+        }
+    }
+    text
+}
+
+/// Twenty rows, also where there is no depth.
+fn depth_line(reader: &Reader, index: u32) -> String {
+    let depth = reader.depth(index);
+    let mut text = format!("H,{}", number(&depth));
+    let depth = depth.unwrap_or_default();
+    for row in depth.bids.into_iter().chain(depth.asks) {
+        match row {
+            Some(Row {
+                price,
+                size,
+                orders,
+            }) => {
+                let _ = write!(text, ",{price},{size},{orders}");
+            }
+            None => text.push_str(",,,"),
         }
     }
     text

@@ -1,10 +1,12 @@
 //! The small program: document 01, "What the bureau's reader does", and the offset of a bad field
-//! in its refusals: request M-111. Its market is NYSE: request M-107.
+//! in its refusals: request M-111. Its market is NYSE: request M-107. It shows the levels behind its
+//! quote where they are asked for: request M-106.
 
 use std::io::{self, Read, Write};
 
 use crate::answer::Refusal;
 use crate::book::Level;
+use crate::depth::Row;
 use crate::line::{line_text, price_text};
 use crate::reader::Reader;
 use crate::wire::{Body, Market, Message};
@@ -21,6 +23,17 @@ pub(crate) const SECOND_OF_DAY: u32 = 34_200;
 
 /// Reads the file in parts and prints its lines, its refusals, the end and the last quote.
 pub fn painterend(input: &mut impl Read, output: &mut impl Write) -> io::Result<()> {
+    print_page(input, output).map(|_| ())
+}
+
+/// The same, and then the levels behind the last quote.
+pub fn painterend_levels(input: &mut impl Read, output: &mut impl Write) -> io::Result<()> {
+    let reader = print_page(input, output)?;
+    print_levels(&reader, output)
+}
+
+/// Prints the page and hands back the state at its end.
+fn print_page(input: &mut impl Read, output: &mut impl Write) -> io::Result<Reader> {
     let mut reader = new_reader();
     let mut part = vec![0; PART];
     let mut filled = 0;
@@ -39,7 +52,8 @@ pub fn painterend(input: &mut impl Read, output: &mut impl Write) -> io::Result<
         filled -= at;
     };
     writeln!(output, "E,{}", end.number())?;
-    print_quote(&reader, output)
+    print_quote(&reader, output)?;
+    Ok(reader)
 }
 
 /// The state that every file starts with.
@@ -121,5 +135,29 @@ fn level_text(level: Option<Level>) -> String {
     match level {
         Some(level) => format!("{},{}", price_text(level.price, SCALE), level.size),
         None => ",".to_string(),
+    }
+}
+
+/// Ten rows of each side; the answer alone where there is no depth.
+fn print_levels(reader: &Reader, output: &mut impl Write) -> io::Result<()> {
+    let depth = match reader.depth(INDEX) {
+        Ok(depth) => depth,
+        Err(refusal) => return writeln!(output, "D,{}", refusal.number()),
+    };
+    for (side, rows) in [('B', depth.bids), ('S', depth.asks)] {
+        for row in rows {
+            writeln!(output, "D,{side},{}", row_text(row))?;
+        }
+    }
+    Ok(())
+}
+
+fn row_text(row: Option<Row>) -> String {
+    match row {
+        Some(row) => {
+            let price = price_text(row.price, SCALE);
+            format!("{price},{},{}", row.size, row.orders)
+        }
+        None => ",,".to_string(),
     }
 }

@@ -2,6 +2,7 @@
 
 use crate::answer::Refusal;
 use crate::book::Quote;
+use crate::depth::Depth;
 use crate::symbol::Symbol;
 use crate::wire::{read, Market, Message};
 
@@ -77,11 +78,21 @@ impl Reader {
 
     /// The quote of a symbol; refused with 5, then with 8.
     pub fn quote(&self, index: u32) -> Result<Quote, Refusal> {
+        Ok(self.shown(index)?.book.quote())
+    }
+
+    /// The ten best levels of each side of a symbol; refused as a quote is.
+    pub fn depth(&self, index: u32) -> Result<Depth, Refusal> {
+        Ok(Depth::of(self.shown(index)?.book.orders()))
+    }
+
+    /// A symbol whose book may be shown.
+    fn shown(&self, index: u32) -> Result<&Symbol, Refusal> {
         let symbol = self.symbol(index).ok_or(Refusal::Symbol)?;
         if symbol.is_stale() {
             return Err(Refusal::Stale);
         }
-        Ok(symbol.book.quote())
+        Ok(symbol)
     }
 
     /// The day's volume and whether the record is whole, also of a stale symbol.

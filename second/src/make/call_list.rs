@@ -100,6 +100,11 @@ impl CallList {
         self.u32(index);
     }
 
+    pub fn depth(&mut self, index: u32) {
+        self.letter(b'H');
+        self.u32(index);
+    }
+
     pub fn volume(&mut self, index: u32) {
         self.letter(b'V');
         self.u32(index);

@@ -8,6 +8,7 @@ mod codes;
 mod conditions;
 mod crosses;
 mod day;
+mod depth;
 mod fields;
 mod full;
 mod homes;
@@ -48,6 +49,7 @@ impl Cases {
         book::add_to(&mut cases);
         full::add_to(&mut cases);
         homes::add_to(&mut cases);
+        depth::add_to(&mut cases);
         record::add_to(&mut cases);
         crosses::add_to(&mut cases);
         registering::add_to(&mut cases);

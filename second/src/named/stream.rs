@@ -114,12 +114,13 @@ fn misunderstood(cases: &mut Cases) {
         calls.raw(b"q");
         calls.new_state();
     });
-    let cut: [(&str, &[u8]); 9] = [
+    let cut: [(&str, &[u8]); 10] = [
         ("register", &[b'G', 7, 0, 0, 0, 4, 3, b'A', b'B']),
         ("index", &[b'G', 7, 0, 0]),
         ("step", &[b'S', 0, 0, 5, 0, 1, 2, 3, 4]),
         ("run", &[b'X', 0, 0, 1, 0]),
         ("quote", &[b'Q', 7, 0, 0]),
+        ("depth", &[b'H', 7, 0, 0]),
         ("volume", b"V"),
         ("read", &[b'D', 0, 0, 0]),
         ("write", &[b'W', 0, 0, 0, 0, 0, 1, 4, 0, 1, 2, 3]),

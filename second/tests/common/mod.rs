@@ -17,7 +17,8 @@ pub fn printed(name: &str) -> String {
     String::from_utf8(page).expect("a page is ASCII")
 }
 
-fn named(file: &str) -> &'static [u8] {
+/// What is in the file of that name.
+pub fn named(file: &str) -> &'static [u8] {
     static CASES: OnceLock<Cases> = OnceLock::new();
     let cases = CASES.get_or_init(Cases::all);
     cases.file(file).expect("a named case")
