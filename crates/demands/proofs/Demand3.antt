@@ -128,7 +128,7 @@ pub demand_3_holds : (b c : Book) → Demand3 Reads b c
 demand_3_holds = demanded Reads (λ b ms r w a p. reads_after w p)
 
 -- and from bytes: each is one run over the messages laid end to end
-run_reads : {b r : Book} {ms : List (List ℕ)} → AllComplete ms → RunsOver b ms r → Reads b ms r
+pub run_reads : {b r : Book} {ms : List (List ℕ)} → AllComplete ms → RunsOver b ms r → Reads b ms r
 run_reads {b = b} {ms = ms} a (ran p) = runs {ns = ms} nothing p (rw (walks_messages ms a) (all_count (view b) ms))
 
 pub demand_3_from_bytes : (b c : Book) → Demand3 RunsOver b c

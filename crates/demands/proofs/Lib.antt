@@ -8,6 +8,7 @@ pub mod Demand1
 pub mod Demand2
 pub mod Demand3
 pub mod Depth
+pub mod DepthDemand
 pub mod Clauses
 pub mod OneOutcome
 pub mod Examples

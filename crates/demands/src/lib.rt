@@ -13,6 +13,7 @@
 // | that it needs one market for both readers | proofs/TwoMarkets | two_markets, two_markets_disagree |
 // | that idle and stale readers do not meet it | proofs/Unfaithful | shows_an_add, no_stale_readers, no_idle_readers |
 // | ten levels a side: rows that are exact and leave none out, the first of which is the quote | specs/Depth | depth_holds, first_row_is_the_quote, depth_answered |
+// | demand 3 of the depth: by any calls; from bytes; idle and stale readers do not meet it | specs/Depth | demand_3_of_depth_holds, demand_3_of_depth_from_bytes, no_stale_depths, no_idle_depths |
 // | that a message refused with 1 to 5 acts as a lost one | proofs/Refused | refused_changes_nothing, refused_acts_as_lost |
 // | that each contract leaves one outcome | specs/OneOutcome | one_outcome |
 
