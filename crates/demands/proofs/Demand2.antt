@@ -154,7 +154,7 @@ module _ {b : Book} (p : Reached b) where
     execution = execution_takes_off m;
     cross_counts = cross_adds m;
     correction_counts = correction_takes_its_place m;
-    left_out_lem = leaves_out m;
+    leaves_out = leaves_out m;
     others_unchanged = λ index other. apply_others b s at r (reached_wf p) m index (λ n x e f. other (take n (drop at s)) (record { size = n; reaches = e; bytes = refl }) x f);
     mark_stays_lost = λ index. apply_mark index b s at r (reached_wf p) m;
     market_stays = m.market;

@@ -80,7 +80,7 @@ pub record OfMessage (b : Book) (s : List ℕ) (at : ℕ) (r : Moved) : Type 0 w
       → Replaces y.volume volume (volume_of head.index (view b)) (volume_of head.index (view r.book))
       × (look cross_number cross (crosses_in head.index (view r.book)) ≡ some (cross_of cross volume))
   -- one that is done and left out uses its number and takes the mark: nothing else of its symbol changes
-  pub left_out_lem : {m : List ℕ} (message : Message) (x : Symbol) → StandsAt s at m → (read_of (view b).market m).outcome ≡ done message → r.answer ≡ 0
+  pub leaves_out : {m : List ℕ} (message : Message) (x : Symbol) → StandsAt s at m → (read_of (view b).market m).outcome ≡ done message → r.answer ≡ 0
       → symbol_in (index_of (meant message)) (view b) ≡ some x → LeavesOut x message → symbol_in (index_of (meant message)) (view r.book) ≡ some (left_out x)
   -- a message for one symbol changes nothing kept for another: orders, record, mark, number, name and scale; nor does a refusal
   pub others_unchanged : (index : ℕ) → ((m : List ℕ) → StandsAt s at m → NotFor (view b).market index m) → symbol_in index (view r.book) ≡ symbol_in index (view b)
