@@ -1,34 +1,35 @@
 -- A message meets the symbol of its index, wherever that lies: what the code knows of the place and of the turn picks the clause of the rule.
 use mathlib.Core.Bool.{Bool, true, false}
-use mathlib.Core.List.{List, [], ◌∷◌}
+use mathlib.Core.List.{List}
 use mathlib.Core.Logic.{◌≢◌}
 use mathlib.Core.Option.{Option, none, some}
 use mathlib.Core.Path.{◌≡◌, refl, sym, ap, ◌∙◌}
-use Prim.Native.Nat.{ℕ, ◌<◌, ◌≤◌}
+use Prim.Native.Nat.{ℕ, suc, ◌<◌, ◌≤◌}
 use native.Mathlib.Omega.{arith}
 use borrow.Author.Tests.{ltb-false}
 use lib.Dec.{ltb}
 use lib.ListN.{get_or, set}
 use lib.Seq.{set-get_or}
 use Rattle.feed.specs.Reader.{Fit, Ruling, unchanged, made_stale, ruled, Act, clearing, numbered, index_of}
-use denote.Enum.Declared.{tag_of}
-use types.Run.{OneOf, miss}
+use Rattle.std.specs.Prelude.{Ok, Err}
 use Rattle.wire.specs.Outcome.{number_of}
-use Rattle.wire.specs.Reading.{answered_as}
-use Rattle.wire.specs.declared.Answer.{Answer}
-use Rattle.wire.specs.declared.Message.{Message}
-use Rattle.wire.specs.contracts.Answer as answers
+use Rattle.wire.specs.Reading.{answered_as, decoded_as}
+use Rattle.wire.specs.declared.Decoded.{Decoded}
+use Rattle.wire.specs.declared.ReadError.{ReadError}
 use Rattle.places.specs.Places.{symbols, among}
 use Rattle.places.proofs.EightShelves.{by_place}
+use Rattle.places.specs.Tickets.{first_in}
 use Rattle.symbols.specs.State.{numbers, Entry, entries, itself, place_of}
-use Rattle.symbols.specs.Turns.{restarted, turn_answer, turn_at}
+use Rattle.symbols.specs.Turns.{staled, restarted, turn_answer, turn_at}
 use Rattle.symbols.specs.Promises.{Alters}
+use Rattle.symbols.specs.Answers as told
+use Rattle.symbols.specs.declared.turns.TurnError.{TurnError}
 use Rattle.symbols.specs.declared.Symbols.{Symbols}
-use Rattle.symbols.proofs.Entries.{entry_past}
+use Rattle.symbols.proofs.Entries.{entry_past, seat_is}
 use Rattle.book.specs.State.{Symbol, View, with_places, Next, entry_at, orders_at, record_at, symbol_of, view, place_in, Wf}
 use Rattle.orders.specs.Rules.{apply_to}
-use Rattle.book.specs.Step.{change_of, deal_of, symbol_made_stale, enacted, meeting, refusing, put, act_on, meant, step_on}
-use Rattle.book.specs.Promises.{unchanging, Obeys, Steps, Awaits, MakesStale, Settles}
+use Rattle.book.specs.Step.{change_of, deal_of, symbol_made_stale, enacted, meeting, refusing, put, act_on, meant, step_of}
+use Rattle.book.specs.Promises.{unchanging, Obeys, Steps, Awaits, Settles}
 use Rattle.orders.specs.Promises.{Clears}
 use Rattle.orders.specs.declared.Order.{Order}
 use Rattle.orders.specs.declared.Orders.{Orders}
@@ -39,20 +40,20 @@ use Rattle.book.proofs.Views.{same_market, seen, place_is, view_at, symbol_missi
 use Rattle.book.proofs.Stores.{stales, clears}
 
 -- ---- promises
--- a refusal that hands the state back
-pub refuses : (b : Book) (x : Next) (a : ℕ) → x ≡ refusing (view b) a → Steps b x (record { book = b; answer = a })
-refuses b x a e = record {
+-- a refusal that leaves the state as it was
+pub nothing_steps : (b : Book) (x : Next) (a : ℕ) → (Wf b → x ≡ refusing (view b) a) → Steps b x (record { book = b; answer = a })
+nothing_steps b x a e = record {
   market = refl;
   kept = λ u. refl;
-  obeys = λ w. record { wf = w; next_view = sym (ap (λ (y : Next). y.view) e); answer = sym (ap (λ (y : Next). y.answer) e) };
+  obeys = λ w. record { wf = w; next_view = sym (ap (λ (y : Next). y.view) (e w)); answer = sym (ap (λ (y : Next). y.answer) (e w)) };
 }
 
 -- an answer that changes something
-pub changes : (b : Book) (x y : Next) (r : Done) → x ≡ y → (view r.book).market ≡ (view b).market → unchanging r.answer ≡ false → (Wf b → Obeys y r.book r.answer) → Steps b x r
-changes b x y r e same n p = record {
+pub changes : (b : Book) (x : Next) (r : Done) → (view r.book).market ≡ (view b).market → unchanging r.answer ≡ false → (Wf b → Obeys x r.book r.answer) → Steps b x r
+changes b x r same n p = record {
   market = same;
   kept = λ u. absurd (let z : ◌≡◌ {A = Bool} true false = sym u ∙ n in let o : ◌≡◌ {A = ℕ} 0 1 = cc in omega arith);
-  obeys = λ w. rw e (p w);
+  obeys = p;
 }
 
 -- ---- the symbol of a message
@@ -114,9 +115,6 @@ pub record Asked (b : Book) (index n k t : ℕ) : Type 0 where
   pub place : k ≡ place_of itself index (entries b.symbols)
   pub turn : t ≡ turn_at (entry_at b k) n
 
-pub act_nobody : (b : Book) (index n : ℕ) (e : Effect) (k : ℕ) → k ≡ place_of itself index (entries b.symbols) → symbols ≤ k → act_on (view b) (numbered index n e) ≡ refusing (view b) 5
-act_nobody b index n e k place h = act_missing b (numbered index n e) (rw (place ∙ place_is b index) at h)
-
 module _ (b : Book) (index n : ℕ) (e : Effect) (k t : ℕ) (asked : Asked b index n k t) where
   is : k ≡ place_in index (view b)
   is = asked.place ∙ place_is b index
@@ -159,52 +157,77 @@ module _ (b : Book) (index n : ℕ) (e : Effect) (k t : ℕ) (asked : Asked b in
     meet_in : t ≡ 0 → act_on (view b) (numbered index n e) ≡ comes_to (ruled false false false (apply_to (orders_at b k) (change_of e)))
     meet_in z = met ∙ ap comes_to (in_turn (apply_to (orders_at b k) (change_of e)) _ _ _ (sym turned ∙ z))
 
-  -- 7: the symbol becomes stale
-  pub meeting_above : (r : Done) → t ≡ 7 → MakesStale b k 7 r → Steps b (act_on (view b) (numbered index n e)) r
-  unfolding among
-  meeting_above r z s =
-      let h = within (λ five. omega (arith, z, five)) in
-      changes b _ _ r (meet_stale h z) (same_market b r.book s.market) (ap unchanging s.answer) (λ w. rw s.answer (stales b k h (at_k h).entry (at_k h).at w 7 r s))
+    abbrev awaits : t ≡ 0 → n < numbers → Awaits b k
+    awaits z h = record { place = in_range; entry = at_k.entry; there = at_k.at; expected = rw (turn_number at_k.entry.standing.stale n at_k.entry.standing.expected (sym turned ∙ z)) h }
 
-  -- 5, 6, 8: nothing changes
-  pub meeting_away : t ≢ 7 → t ≢ 0 → act_on (view b) (numbered index n e) ≡ refusing (view b) t
-  meeting_away p q = by_place k
+  meet_away : t ≢ 7 → t ≢ 0 → act_on (view b) (numbered index n e) ≡ refusing (view b) t
+  meet_away p q = by_place k
       (λ h. meet_refused h p q)
       (λ h. act_missing b (numbered index n e) (rw is at h) ∙ ap (refusing (view b)) (sym (past h)))
 
+-- a refusal has a number
+pub turn_some : (e : TurnError) → told.turn_number e ≢ 0
+turn_some TurnError.Unknown z = omega (arith, z)
+turn_some TurnError.Old z = omega (arith, z)
+turn_some TurnError.Gap z = omega (arith, z)
+turn_some TurnError.Stale z = omega (arith, z)
+
+-- ---- the same by the place that the tickets tell, which is the symbol's in a sound state
+module _ (b : Book) (index n k : ℕ) (seat : k ≡ first_in b.symbols.tickets 0 symbols (suc index)) (e : Effect) where
+  place : Wf b → k ≡ place_of itself index (entries b.symbols)
+  place w = seat ∙ seat_is b.symbols w.names index
+
+  pub turn_nobody : symbols ≤ k → Steps b (act_on (view b) (numbered index n e)) (record { book = b; answer = 5 })
+  turn_nobody h = nothing_steps b _ 5 (λ w. act_missing b (numbered index n e) (rw (place w ∙ place_is b index) at h))
+
+module _ (b : Book) (index n k : ℕ) (seat : k ≡ first_in b.symbols.tickets 0 symbols (suc index)) (below : k < symbols) (t : ℕ) (turn : t ≡ turn_at (entry_at b k) n) (e : Effect) where
+  asked : Wf b → Asked b index n k t
+  asked w = record { place = place b index n k seat e w; turn = turn }
+
+  -- 7: the symbol becomes stale
+  pub turn_above : t ≡ 7 → (s : Symbols) → Alters b.symbols k staled s
+      → Steps b (act_on (view b) (numbered index n e)) (record { book = record { symbols = s; orders = b.orders; trades = b.trades; market = b.market }; answer = 7 })
+  unfolding among
+  turn_above z s a = changes b _ _ (same_market b _ refl) refl (λ w.
+      let q = asked w in
+      let h = within b index n e k t q (λ five. omega (arith, z, five)) in
+      rw (meet_stale b index n e k t q h z) (stales b k h (at_k b index n e k t q h).entry (at_k b index n e k t q h).at w 7 (record { book = record { symbols = s; orders = b.orders; trades = b.trades; market = b.market }; answer = 7 })
+      (record { symbols = a; orders = refl; trades = refl; market = refl; answer = refl })))
+
+  -- 5, 6, 8: nothing changes
+  pub turn_refused : t ≢ 7 → t ≢ 0 → Steps b (act_on (view b) (numbered index n e)) (record { book = b; answer = t })
+  turn_refused p q = nothing_steps b _ t (λ w. meet_away b index n e k t (asked w) p q)
+
   -- in its turn it is taken
-  module _ (z : t ≡ 0) where
-    in_range : k < symbols
-    in_range = within (λ five. omega (arith, z, five))
-
-    pub awaits : n < numbers → Awaits b k
-    awaits h = record { place = in_range; entry = (at_k in_range).entry; there = (at_k in_range).at; expected = rw (turn_number (at_k in_range).entry.standing.stale n (at_k in_range).entry.standing.expected (sym (turned in_range) ∙ z)) h }
-
-    pub meeting_turn : (r : Done) → Settles b k e r → Steps b (act_on (view b) (numbered index n e)) r
-    meeting_turn r s = changes b _ _ r (meet_in in_range z) s.market s.changes (s.obeys (at_k in_range).entry (at_k in_range).at)
+  pub turn_due : t ≡ 0 → n < numbers → (r : Done) → Settles b k e r → Steps b (act_on (view b) (numbered index n e)) r
+  turn_due z fits r s = changes b _ r s.market s.changes (λ w.
+      let q = asked w in
+      let h = within b index n e k t q (λ five. omega (arith, z, five)) in
+      rw (meet_in b index n e k t q h z) (s.obeys (awaits b index n e k t q h z fits) w))
 
 -- ---- a clear, by the place of its symbol
+pub clears_nobody : (b : Book) (index next : ℕ) → symbols ≤ place_of itself index (entries b.symbols) → Steps b (act_on (view b) (clearing index next)) (record { book = b; answer = 5 })
+clears_nobody b index next h = nothing_steps b _ 5 (λ w. act_missing b (clearing index next) (rw (place_is b index) at h))
+
 module _ (b : Book) (index next k : ℕ) (place : k ≡ place_of itself index (entries b.symbols)) where
   cleared_at : k ≡ place_in index (view b)
   cleared_at = place ∙ place_is b index
-
-  pub clears_nobody : symbols ≤ k → Steps b (act_on (view b) (clearing index next)) (record { book = b; answer = 5 })
-  clears_nobody h = refuses b _ 5 (act_missing b (clearing index next) (rw cleared_at at h))
 
   pub clears_symbol : k < symbols → (s : Symbols) → Alters b.symbols k (restarted next) s → (os : Orders) → Clears b.orders k os
       → Steps b (act_on (view b) (clearing index next)) (record { book = record { symbols = s; orders = os; trades = b.trades; market = b.market }; answer = 0 })
   unfolding among meeting
   clears_symbol h s a os c =
       let f = symbol_at b index k cleared_at h in
-      changes b _ _ _ (act_at_lem b (clearing index next) k cleared_at f) (same_market b _ refl) refl (λ w. clears b k h f.entry f.at w next s a os c)
+      changes b _ _ (same_market b _ refl) refl (λ w. rw (act_at_lem b (clearing index next) k cleared_at f) (clears b k h f.entry f.at w next s a os c))
 
 -- ---- what reading answered
-pub refused_read_lem : (v : View) (a : Answer) → OneOf (1 ∷ 2 ∷ 3 ∷ 4 ∷ []) (tag_of answers.the_type a) → step_on v (answered_as a).outcome ≡ refusing v (number_of (answered_as a).outcome)
-refused_read_lem v (Answer.Message m) h = absurd (miss (1 ∷ 2 ∷ 3 ∷ 4 ∷ []) 0 tt h)
-refused_read_lem v Answer.Short h = refl
-refused_read_lem v Answer.BadSize h = refl
-refused_read_lem v Answer.BadType h = refl
-refused_read_lem v (Answer.BadField n) h = refl
+pub refused_read_lem : (v : View) (e : ReadError) → step_of v (decoded_as (Err e)) ≡ refusing v (number_of (answered_as (Err e)).outcome)
+unfolding step_of
+refused_read_lem v ReadError.Short = refl
+refused_read_lem v ReadError.BadSize = refl
+refused_read_lem v ReadError.BadType = refl
+refused_read_lem v (ReadError.BadField n) = refl
 
-pub read_acts : (v : View) (a : Answer) (m : Message) → a ≡ Answer.Message m → (step_on v (answered_as a).outcome ≡ act_on v (meant m)) × ((answered_as a).offset ≡ 0)
-read_acts v a m e = (rw e, rw e)
+pub read_acts : (v : View) (d : Decoded) → step_of v (decoded_as (Ok d)) ≡ act_on v (meant d.message)
+unfolding step_of
+read_acts v d = refl

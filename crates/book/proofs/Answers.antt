@@ -14,13 +14,13 @@ use Rattle.wire.specs.Reading.{Read, reach_of, read_of}
 use Rattle.wire.specs.declared.Message.{Message}
 use Rattle.wire.proofs.Refusing.{reached_refused}
 use Rattle.places.specs.Places.{among}
-use Rattle.symbols.specs.Registering.{told_of}
 use Rattle.orders.specs.Rules.{apply_to}
 use Rattle.orders.specs.declared.Order.{Order}
 use Rattle.record.specs.declared.Deal.{Deal}
 use Rattle.book.specs.State.{Symbol, View, entry_of, place_in, symbol_in}
+use Rattle.symbols.specs.Registering.{told_of}
+use Rattle.book.specs.Registering.{told_number, told_in}
 use Rattle.book.specs.Step.{change_of, deal_of, enacted, meeting, act_at, act_on, meant, step_on, step_of, step_in}
-use Rattle.book.specs.Registering.{told_in}
 use Rattle.book.specs.Quote.{no_quote, quoted_if, quoted, quote_of, volume_in, volume_of}
 use Rattle.book.specs.declared.acts.Effect.{Effect}
 
@@ -128,19 +128,19 @@ volume_refused v index = go (symbol_in index v)
     go (some s) n = absurd (n refl)
 
 -- ---- what is told of a symbol: 0 and 5
-pub told_answers : (v : View) (index : ℕ) → among (told_in index v).answer (0 ∷ 5 ∷ []) ≡ true
+pub told_answers : (v : View) (index : ℕ) → among (told_number (told_in index v)) (0 ∷ 5 ∷ []) ≡ true
 unfolding told_in told_of among
 told_answers v index = go (symbol_in index v)
   where
-    go : (x : Option Symbol) → among (told_of (map entry_of x)).answer (0 ∷ 5 ∷ []) ≡ true
+    go : (x : Option Symbol) → among (told_number (told_of (map entry_of x))) (0 ∷ 5 ∷ []) ≡ true
     go none = refl
     go (some s) = refl
 
 -- refused, nothing is told
-pub told_refused : (v : View) (index : ℕ) → (told_in index v).answer ≢ 0 → told_in index v ≡ told_of none
+pub told_refused : (v : View) (index : ℕ) → told_number (told_in index v) ≢ 0 → told_in index v ≡ told_of none
 unfolding told_in told_of
 told_refused v index = go (symbol_in index v)
   where
-    go : (x : Option Symbol) → (told_of (map entry_of x)).answer ≢ 0 → told_of (map entry_of x) ≡ told_of none
+    go : (x : Option Symbol) → told_number (told_of (map entry_of x)) ≢ 0 → told_of (map entry_of x) ≡ told_of none
     go none n = refl
     go (some s) n = absurd (n refl)

@@ -1,5 +1,6 @@
 -- The quoted size is the sum over the live orders at the quoted price, and no live order is better, since a quote shows the levels of the symbol's orders; a message that is done brings the orders that the rule says.
-use mathlib.Core.Bool.{Bool, true, false}
+use Rattle.std.specs.Prelude.{None, is_some}
+use mathlib.Core.Bool.{Bool, true, false, false≢true}
 use mathlib.Core.List.{List, Memᴰ}
 use mathlib.Core.Option.{Option, none, some}
 use mathlib.Core.Path.{◌≡◌, refl, sym, ap, ◌∙◌, subst}
@@ -11,9 +12,8 @@ use Rattle.feed.specs.Reader.{Fit, fits, misfit, no_room, ruled, numbered}
 use Rattle.places.specs.Places.{sum_by, insert, look}
 use Rattle.orders.specs.State.{orders_each, order_number}
 use Rattle.orders.specs.Rules.{apply_to, added, order_of}
-use Rattle.orders.specs.Levels.{counts, shares_at, level_of, NoBetter, Attained, TakesOff}
+use Rattle.orders.specs.Levels.{counts, shares_at, level_at, level_of, NoBetter, Attained, TakesOff}
 use Rattle.orders.specs.declared.Order.{Order}
-use Rattle.orders.specs.declared.levels.Level.{Level}
 use Rattle.orders.proofs.Sides as levels
 use Rattle.orders.proofs.Sides.{shows, best_of_all, attained_of_all, add_level}
 use Rattle.orders.proofs.Executing.{takes_off}
@@ -25,36 +25,34 @@ use Rattle.book.specs.Quote.{quoted_if, quoted, quote_of, side_of}
 use Rattle.book.proofs.Isolation.{own_symbol}
 
 -- a quote that shows a price shows the level of the symbol's orders
-quoted_side : (buy : Bool) (v : View) (index : ℕ) (s : Symbol) (p n : ℕ) → symbol_in index v ≡ some s → side_of buy (quote_of index v) ≡ Level.Best p n → (s.entry.standing.stale ≡ false) × (level_of buy s.orders ≡ Level.Best p n)
+quoted_side : (buy : Bool) (v : View) (index : ℕ) (s : Symbol) (p n : ℕ) → symbol_in index v ≡ some s → side_of buy (quote_of index v) ≡ level_at p n → (s.entry.standing.stale ≡ false) × (level_of buy s.orders ≡ level_at p n)
 unfolding quote_of
 quoted_side buy v index s p n e q = go buy s.entry.standing.stale refl (sym (ap (λ (x : Option Symbol). side_of buy (quoted x)) e) ∙ q)
   where
-    go : (side : Bool) (t : Bool) → s.entry.standing.stale ≡ t → side_of side (quoted_if s.entry.standing.stale s.orders) ≡ Level.Best p n → (s.entry.standing.stale ≡ false) × (level_of side s.orders ≡ Level.Best p n)
-    go true true f z = absurd (let y : ◌≡◌ {A = Level} Level.Empty (Level.Best p n) = (rw f at z) in let o : ◌≡◌ {A = ℕ} 0 1 = cc in omega arith)
-    go false true f z = absurd (let y : ◌≡◌ {A = Level} Level.Empty (Level.Best p n) = (rw f at z) in let o : ◌≡◌ {A = ℕ} 0 1 = cc in omega arith)
+    go : (side : Bool) (t : Bool) → s.entry.standing.stale ≡ t → side_of side (quoted_if s.entry.standing.stale s.orders) ≡ level_at p n → (s.entry.standing.stale ≡ false) × (level_of side s.orders ≡ level_at p n)
+    go true true f z = absurd (false≢true (ap is_some (rw f at z)))
+    go false true f z = absurd (false≢true (ap is_some (rw f at z)))
     go true false f z = (f, rw f at z)
     go false false f z = (f, rw f at z)
 
 -- ---- the quoted size at a price is the sum over the live orders there
-pub exact_sum : (buy : Bool) (v : View) (index : ℕ) (s : Symbol) (p n : ℕ) → symbol_in index v ≡ some s → side_of buy (quote_of index v) ≡ Level.Best p n → n ≡ sum_by (shares_at buy p) s.orders
+pub exact_sum : (buy : Bool) (v : View) (index : ℕ) (s : Symbol) (p n : ℕ) → symbol_in index v ≡ some s → side_of buy (quote_of index v) ≡ level_at p n → n ≡ sum_by (shares_at buy p) s.orders
 exact_sum buy v index s p n e q = sym (shows buy s.orders p n (quoted_side buy v index s p n e q).1).size
 
-pub best_price : (buy : Bool) (v : View) (index : ℕ) (s : Symbol) (p n : ℕ) → symbol_in index v ≡ some s → side_of buy (quote_of index v) ≡ Level.Best p n
+pub best_price : (buy : Bool) (v : View) (index : ℕ) (s : Symbol) (p n : ℕ) → symbol_in index v ≡ some s → side_of buy (quote_of index v) ≡ level_at p n
     → (o : Order) → Memᴰ o s.orders → counts buy o ≡ true → NoBetter buy p o.price
-best_price buy v index s p n e q o m c = rw (shows buy s.orders p n (quoted_side buy v index s p n e q).1).price at (best_of_all buy s.orders o m c).1
+best_price buy v index s p n e q o m c = rw (shows buy s.orders p n (quoted_side buy v index s p n e q).1).best at (best_of_all buy s.orders o m c)
 
-pub attained : (buy : Bool) (v : View) (index : ℕ) (s : Symbol) (p n : ℕ) → symbol_in index v ≡ some s → side_of buy (quote_of index v) ≡ Level.Best p n → Attained buy p s.orders
-attained buy v index s p n e q =
-    let sh = shows buy s.orders p n (quoted_side buy v index s p n e q).1 in
-    rw sh.price at (attained_of_all buy s.orders sh.some)
+pub attained : (buy : Bool) (v : View) (index : ℕ) (s : Symbol) (p n : ℕ) → symbol_in index v ≡ some s → side_of buy (quote_of index v) ≡ level_at p n → Attained buy p s.orders
+attained buy v index s p n e q = attained_of_all buy s.orders p (shows buy s.orders p n (quoted_side buy v index s p n e q).1).best
 
 -- ---- where none is shown, none of the side is live
-empty_side : (stale buy : Bool) (os : List Order) → (quoted_if stale os).answer ≡ 0 → side_of buy (quoted_if stale os) ≡ Level.Empty → level_of buy os ≡ Level.Empty
+empty_side : (stale buy : Bool) (os : List Order) → (quoted_if stale os).answer ≡ 0 → side_of buy (quoted_if stale os) ≡ None → level_of buy os ≡ None
 empty_side true buy os z q = absurd (omega (arith, z))
 empty_side false true os z q = q
 empty_side false false os z q = q
 
-pub none_live : (buy : Bool) (v : View) (index : ℕ) (s : Symbol) → symbol_in index v ≡ some s → (quote_of index v).answer ≡ 0 → side_of buy (quote_of index v) ≡ Level.Empty
+pub none_live : (buy : Bool) (v : View) (index : ℕ) (s : Symbol) → symbol_in index v ≡ some s → (quote_of index v).answer ≡ 0 → side_of buy (quote_of index v) ≡ None
     → (o : Order) → Memᴰ o s.orders → counts buy o ≡ true → ⊥
 unfolding quote_of
 none_live buy v index s e z q o m c =
@@ -85,9 +83,9 @@ shown_side : (buy stale : Bool) (os : List Order) → stale ≡ false → side_o
 shown_side true stale os e = rw e
 shown_side false stale os e = rw e
 
-pub case_d : (buy : Bool) (v : View) (index number n p vol m : ℕ) (s : Symbol) → symbol_in index v ≡ some s → side_of buy (quote_of index v) ≡ Level.Best p m
+pub case_d : (buy : Bool) (v : View) (index number n p vol m : ℕ) (s : Symbol) → symbol_in index v ≡ some s → side_of buy (quote_of index v) ≡ level_at p m
     → (act_on v (numbered index number (Effect.Add n buy p vol))).answer ≡ 0
-    → side_of buy (quote_of index (act_on v (numbered index number (Effect.Add n buy p vol))).view) ≡ Level.Best p (m + vol)
+    → side_of buy (quote_of index (act_on v (numbered index number (Effect.Add n buy p vol))).view) ≡ level_at p (m + vol)
 unfolding quote_of act_on
 case_d buy v index number n p vol m s e q z =
     let shown = quoted_side buy v index s p m e q in

@@ -1,6 +1,7 @@
 pub mod Views
 pub mod Stores
 pub mod Acting
+pub mod Landing
 pub mod Asking
 pub mod Registering
 pub mod Beginning
@@ -17,5 +18,4 @@ pub mod Answers
 pub mod Positions
 pub mod Reaching
 pub mod Streams
-pub mod Planning
 pub mod Room

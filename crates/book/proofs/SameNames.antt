@@ -1,4 +1,5 @@
 -- No message changes a name or a scale: what is told of a symbol is the same before and after.
+use Rattle.std.specs.Prelude.{Some}
 use mathlib.Core.Bool.{Bool, true, false}
 use mathlib.Core.List.{List, [], ◌∷◌}
 use mathlib.Core.Option.{Option, none, some, map}
@@ -20,7 +21,7 @@ use Rattle.book.proofs.Isolation.{SameName, meeting_keeps_name, unregistered_sta
 
 same_told : (s t : Symbol) → SameName s t → told_of (some (entry_of t)) ≡ told_of (some (entry_of s))
 unfolding told_of
-same_told s t n = λ j. record { answer = 0; name = n.name j; len = n.len j; scale = n.scale j }
+same_told s t n = λ j. Some (record { name = n.name j; len = n.len j; scale = n.scale j })
 
 told_act : (i : ℕ) (v : View) (a : Act Effect) → told_in i (act_on v a).view ≡ told_in i v
 unfolding told_in

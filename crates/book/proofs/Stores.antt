@@ -1,5 +1,6 @@
 -- What came of a message at place k obeys its rule: nothing else is touched, and what is kept and live there is the rule's.
-use mathlib.Core.Bool.{false}
+use Rattle.std.specs.Prelude.{Result, Ok, Err, is_err}
+use mathlib.Core.Bool.{false, true≢false, false≢true}
 use mathlib.Core.List.{List}
 use mathlib.Core.Logic.{◌≢◌}
 use mathlib.Core.Option.{Option, none, some, map}
@@ -20,18 +21,17 @@ use Rattle.symbols.specs.declared.Symbols.{Symbols}
 use Rattle.symbols.proofs.Entries.{length_entries}
 use Rattle.orders.specs.Rules.{apply_to}
 use Rattle.orders.specs.Promises as changing
-use Rattle.orders.specs.Promises.{fit_number, fit_of}
+use Rattle.orders.specs.Promises.{unfit_number, fit_number, fit_of}
 use Rattle.orders.specs.declared.Order.{Order}
 use Rattle.orders.specs.declared.Orders.{Orders}
 use Rattle.orders.specs.declared.Change.{Change}
-use Rattle.orders.specs.declared.Changed.{Changed}
-use Rattle.orders.specs.declared.Fit as code
+use Rattle.orders.specs.declared.Unfit.{Unfit}
 use Rattle.record.specs.Promises as dealing
 use Rattle.record.specs.declared.Deal.{Deal}
-use Rattle.record.specs.declared.Dealt.{Dealt}
+use Rattle.record.specs.Promises.{Dealt}
 use Rattle.book.specs.State.{entry_at, orders_at, record_at, symbol_of, view, Wf}
 use Rattle.book.specs.Step.{symbol_made_stale, enacted, cleared, put}
-use Rattle.book.specs.Promises.{unchanging, Obeys, Awaits, MakesStale, Enacts}
+use Rattle.book.specs.Promises.{unchanging, Obeys, MakesStale, Enacts}
 use Rattle.book.specs.declared.Book.{Book}
 use Rattle.book.specs.declared.Done.{Done}
 use Rattle.book.proofs.Views.{same_market, obeys_at}
@@ -58,16 +58,16 @@ module _ (b : Book) (k : ℕ) (in_range : k < symbols) (e : Entry) (at : entry_a
       (rw (p.orders, p.trades))
 
   -- ---- applied: these orders and this record, and the number counted
-  applies : (c : Changed) (os : List Order) → changing.Obeys b.orders k (fits os) c → (d : Deal) (t : Dealt) → dealing.Obeys b.trades k d t
+  applies : (a : Orders) (os : List Order) (x : Result (Unit {0}) Unfit) → changing.Obeys b.orders k (fits os) a x → (d : Deal) (t : Dealt) → dealing.Obeys b.trades k d t
       → e.standing.expected < numbers → (s : Symbols) → Alters b.symbols k (counted_if t.lost) s
-      → Obeys (put (view b) k (enacted (symbol_of e (orders_at b k) (record_at b k)) d (ruled false false false (fits os)))) (record { symbols = s; orders = c.orders; trades = t.trades; market = b.market }) 0
+      → Obeys (put (view b) k (enacted (symbol_of e (orders_at b k) (record_at b k)) d (ruled false false false (fits os)))) (record { symbols = s; orders = a; trades = t.trades; market = b.market }) 0
   unfolding enacted ruled fitted
-  applies c os p d t q n s a =
-      obeys_at b (record { symbols = s; orders = c.orders; trades = t.trades; market = b.market }) k in_range
-      (record { market = refl; entries = other_entry _ _ k (counted_if t.lost) a; orders = p.others; trades = q.others })
-      _ (own_entry _ _ k (counted_if t.lost) a in_range e at)
+  applies a os x p d t q n s c =
+      obeys_at b (record { symbols = s; orders = a; trades = t.trades; market = b.market }) k in_range
+      (record { market = refl; entries = other_entry _ _ k (counted_if t.lost) c; orders = p.others; trades = q.others })
+      _ (own_entry _ _ k (counted_if t.lost) c in_range e at)
       (enacted (symbol_of e (orders_at b k) (record_at b k)) d (ruled false false false (fits os))) w
-      (record { names = a.wf w.names; orders = p.wf; trades = q.wf })
+      (record { names = c.wf w.names; orders = p.wf; trades = q.wf })
       (rw (lt-ltb e.standing.expected numbers n) (λ i. symbol_of (standing_at (counted (q.lost i) e.standing) e) (p.own i) (q.own i)))
 
   -- ---- symbol clear
@@ -81,61 +81,54 @@ module _ (b : Book) (k : ℕ) (in_range : k < symbols) (e : Entry) (at : entry_a
       (λ i. symbol_of (standing_at (restarted next e.standing) e) (c.own in_range i) (record_at b k))
 
 -- ---- whether the change fits decides: by the rule its number is the answer
-refused_fit : (x : Fit (List Order)) → fit_number (fit_of x) ≢ 0 → ruled false false false x ≡ made_stale (fit_number (fit_of x))
+refused_fit : (x : Fit (List Order)) (e : Unfit) → ◌≡◌ {A = Result (Unit {0}) Unfit} (Err e) (fit_of x) → ruled false false false x ≡ made_stale (unfit_number e)
 unfolding ruled
-refused_fit (fits os) ne = absurd (ne refl)
-refused_fit misfit ne = refl
-refused_fit no_room ne = refl
+refused_fit (fits os) e is = absurd (true≢false (ap is_err is))
+refused_fit misfit e is = ap made_stale (ap fit_number (sym is))
+refused_fit no_room e is = ap made_stale (ap fit_number (sym is))
 
-changes_something : (f : code.Fit) → unchanging (fit_number f) ≡ false
+changes_something : (e : Unfit) → unchanging (unfit_number e) ≡ false
 unfolding among
-changes_something code.Fit.Fits = refl
-changes_something code.Fit.Misfit = refl
-changes_something code.Fit.NoRoom = refl
+changes_something Unfit.Misfit = refl
+changes_something Unfit.NoRoom = refl
 
 record Fitted (x : Fit (List Order)) : Type 0 where
   pub after : List Order
   pub fit : x ≡ fits after
 
-fit_fits : (x : Fit (List Order)) → fit_number (fit_of x) ≡ 0 → Fitted x
+fit_fits : (x : Fit (List Order)) → ◌≡◌ {A = Result (Unit {0}) Unfit} (Ok tt) (fit_of x) → Fitted x
 fit_fits (fits os) e = record { after = os; fit = refl }
-fit_fits misfit e = absurd (omega (arith, e))
-fit_fits no_room e = absurd (omega (arith, e))
+fit_fits misfit e = absurd (false≢true (ap is_err e))
+fit_fits no_room e = absurd (false≢true (ap is_err e))
+
+not_done : (e : Unfit) → unfit_number e ≢ 0
+not_done Unfit.Misfit z = omega (arith, z)
+not_done Unfit.NoRoom z = omega (arith, z)
 
 -- ---- so the message is applied, or its symbol becomes stale
-module _ (b : Book) (k : ℕ) (c : Change) (d : Deal) (t : Awaits b k) where
-  expects : (e : Entry) → entry_at b k ≡ some e → e.standing.expected < numbers
-  expects e at = let same : t.entry ≡ e = (let z : ◌≡◌ {A = Option Entry} (some t.entry) (some e) = sym t.there ∙ at in cc) in rw (sym same) t.expected
+module _ (b : Book) (k : ℕ) (c : Change) (d : Deal) (o : Orders) where
+  pub enacts_refused : (e : Unfit) → changing.Changes b.orders k c o (Err e) → (s : Symbols) → Alters b.symbols k staled s
+      → Enacts b k c d (record { book = record { symbols = s; orders = o; trades = b.trades; market = b.market }; answer = unfit_number e })
+  unfolding enacted
+  enacts_refused e p s a =
+      let r : Done = record { book = record { symbols = s; orders = o; trades = b.trades; market = b.market }; answer = unfit_number e } in
+      record {
+        market = same_market b r.book refl;
+        changes = changes_something e;
+        obeys = λ t w. rw (refused_fit (apply_to (orders_at b k) c) e (p.obeys t.place w.orders).fit)
+            (stales b k t.place t.entry t.there w (unfit_number e) r (record { symbols = a; orders = p.kept (not_done e); trades = refl; market = refl; answer = refl }));
+      }
 
   -- orders that fit, a record dealt with and a number counted, each as its room's rule says
-  pub enacts_done : (x : Changed) → fit_number x.fit ≡ 0 → (y : Dealt) (s : Symbols)
-      → (Wf b → changing.Obeys b.orders k (apply_to (orders_at b k) c) x) → (Wf b → dealing.Obeys b.trades k d y) → (Wf b → Alters b.symbols k (counted_if y.lost) s)
-      → Enacts b k c d (record { book = record { symbols = s; orders = x.orders; trades = y.trades; market = b.market }; answer = 0 })
+  pub enacts_done : k < symbols → (Wf b → changing.Obeys b.orders k (apply_to (orders_at b k) c) o (Ok tt)) → (y : Dealt) → (Wf b → dealing.Obeys b.trades k d y)
+      → (s : Symbols) → (Wf b → Alters b.symbols k (counted_if y.lost) s)
+      → Enacts b k c d (record { book = record { symbols = s; orders = o; trades = y.trades; market = b.market }; answer = 0 })
   unfolding among
-  enacts_done x f y s p q a = record {
-    market = same_market b _ refl;
+  enacts_done h changed y dealt s counted = record {
+    market = same_market b (record { symbols = s; orders = o; trades = y.trades; market = b.market }) refl;
     changes = refl;
-    obeys = λ e at w.
-        let o = p w in
-        let g = fit_fits (apply_to (orders_at b k) c) (sym (ap fit_number o.fit) ∙ f) in
-        rw g.fit (applies b k t.place e at w x g.after (rw g.fit at o) d y (q w) (expects e at) s (a w));
+    obeys = λ t w.
+        let x = changed w in
+        let g = fit_fits (apply_to (orders_at b k) c) x.fit in
+        rw g.fit (applies b k h t.entry t.there w o g.after (Ok tt) (rw g.fit at x) d y (dealt w) t.expected s (counted w));
   }
-
-  module _ (x : Changed) (p : changing.Changes b.orders k c x) where
-    -- the number of the fit is the one that the rule gives
-    by_rule : Wf b → fit_number x.fit ≡ fit_number (fit_of (apply_to (orders_at b k) c))
-    by_rule w = ap fit_number (p.obeys t.place w.orders).fit
-
-    pub enacts_refused : (a : ℕ) → a ≡ fit_number x.fit → a ≢ 0 → (r : Done) → MakesStale b k a r → Enacts b k c d r
-    unfolding enacted
-    enacts_refused a is ne r s = record {
-      market = same_market b r.book s.market;
-      changes = ap unchanging (s.answer ∙ is) ∙ changes_something x.fit;
-      obeys = λ e at w.
-          let same : a ≡ fit_number (fit_of (apply_to (orders_at b k) c)) = is ∙ by_rule w in
-          rw (s.answer, refused_fit (apply_to (orders_at b k) c) (λ z. ne (same ∙ z)), ← same) (stales b k t.place e at w a r s);
-    }
-
-    pub enacts_fitting : fit_number x.fit ≡ 0 → (y : Dealt) → dealing.Deals b.trades k d y → (s : Symbols) → Alters b.symbols k (counted_if y.lost) s
-        → Enacts b k c d (record { book = record { symbols = s; orders = x.orders; trades = y.trades; market = b.market }; answer = 0 })
-    enacts_fitting f y q s a = enacts_done x f y s (λ w. p.obeys t.place w.orders) (λ w. q.obeys t.place w.trades) (λ w. a)

@@ -1,4 +1,5 @@
 -- A move goes by the Msg Size, within the bytes, so a walk has messages enough to spare; the run's loop has walked some of it and has the rest to go.
+use Rattle.std.specs.Prelude.{Result, Ok, Err}
 use mathlib.Core.Bool.{true, false, true≢false, false≢true}
 use mathlib.Core.List.{List, [], ◌∷◌, ◌++◌, append-nil}
 use mathlib.Core.Path.{◌≡◌, refl, sym, ap, ◌∙◌, subst}
@@ -7,24 +8,33 @@ use native.Mathlib.Omega.{arith}
 use native.Mathlib.Nat.{add-zero, zero-add, add-suc, suc-add, add-sub_cancel_left}
 use lib.ListN.{length, take, drop, set, length-append, length-drop, length-set}
 use lib.Seq.{append_snoc, drop-drop, drop-set-lt, sets}
-use Rattle.wire.specs.Outcome.{Outcome, done, refused}
-use Rattle.wire.specs.Reading.{Read, reach_of, read_of, decoded_as}
+use Rattle.wire.specs.Outcome.{Outcome, done, refused, number_of, told_by}
+use Rattle.wire.specs.Reading.{reached_as, answered_as, unreached_as, Read, reach_of, read_of, decoded_as}
 use Rattle.wire.specs.declared.Decoded.{Decoded}
+use Rattle.wire.specs.declared.ReachError.{ReachError}
+use Rattle.wire.specs.declared.ReadError.{ReadError}
 use Rattle.wire.proofs.Cases.{reached}
 use Rattle.book.specs.State.{View, Next, view, Wf}
 use Rattle.book.specs.Step.{step_of, step_in}
 use Rattle.book.specs.Promises.{Steps}
 use Rattle.book.specs.Walk.{Walk, landing, stopping, offset_by, move_of, walk_for, walk_up_to, walk_of, steps_of, answers_of, run_of, Moves, Runs, NotesUpTo}
-use Rattle.markets.specs.Numbers.{market_of}
 use Rattle.markets.specs.declared.Market.{Market}
 use Rattle.book.specs.declared.Book.{Book}
 use Rattle.book.specs.declared.Done.{Done}
-use Rattle.book.specs.declared.step.Stepped.{Stepped}
 use Rattle.book.specs.declared.walk.Moved.{Moved}
 use Rattle.book.specs.declared.walk.Noted.{Noted}
-use Rattle.book.proofs.Views.{view_market}
 
 -- ---- one message
+-- the offset that its reading tells
+pub offset_read : (d : Result Decoded ReadError) → told_by (λ e. (answered_as (Err e)).offset) d ≡ (decoded_as d).offset
+offset_read (Ok d) = refl
+offset_read (Err e) = refl
+
+-- document 01's number of what is not reached is that of its reading
+pub unreached : (e : ReachError) → reached_as (Err e) ≡ refused (number_of (answered_as (Err (unreached_as e))).outcome)
+unreached ReachError.Short = refl
+unreached ReachError.Small = refl
+
 pub move_within : (s : List ℕ) (at n : ℕ) → reach_of (drop at s) ≡ done n → at + n ≤ length s
 move_within s at n e = omega (arith, (reached (drop at s) n e).least, (reached (drop at s) n e).there, length-drop at s)
 
@@ -42,12 +52,12 @@ module _ (b : Book) (s : List ℕ) (at : ℕ) where
     obeys = λ w. record { wf = w; next_view = rw e; answer = rw e };
   }
 
-  pub move_goes : (n : ℕ) → reach_of (drop at s) ≡ done n → (d : Decoded) (r : Stepped) → decoded_as d ≡ read_of (view b).market (take n (drop at s)) → Steps b (step_of (view b) (decoded_as d)) (record { book = r.book; answer = r.answer }) → r.offset ≡ (decoded_as d).offset
-      → Moves b s at (record { book = r.book; at = at + n; answer = r.answer; offset = r.offset; stops = false })
+  pub move_goes : (n : ℕ) → reach_of (drop at s) ≡ done n → (d : Result Decoded ReadError) (r : Done) → decoded_as d ≡ read_of (view b).market (take n (drop at s)) → Steps b (step_of (view b) (decoded_as d)) r → (o : ℕ) → o ≡ (decoded_as d).offset
+      → Moves b s at (record { book = r.book; at = at + n; answer = r.answer; offset = o; stops = false })
   unfolding move_of
-  move_goes n e d r q p o = record {
+  move_goes n e d r q p o is = record {
     at = rw e;
-    offset = rw e (o ∙ ap (λ (x : Read). x.offset) q);
+    offset = rw e (is ∙ ap (λ (x : Read). x.offset) q);
     stops = rw e;
     market = p.market;
     stopped = λ t. absurd (false≢true t);
@@ -158,39 +168,34 @@ module _ (s : List ℕ) (from most : ℕ) (before : List ℕ) (b : Book) (at cou
         obeys = λ w. record { wf = l.sound w; next_view = l.same_view w ∙ ap (steps_of (view b)) whole; noted = l.noted w ∙ ap (λ (ms : List (List ℕ)). sets before 0 (answers_of (view b) ms)) whole };
       }
 
-  -- x is that state, and r is handed back with it and this answer
-  module _ (stop : ℕ) (x : Book) (r : Noted) (that : x ≡ c) (back : r ≡ record { book = x; at = at; answer = stop; count = count }) where
-    handed : (a : ℕ) → stop ≡ a → NotesUpTo b s from most before (record { book = c; at = at; answer = a; count = count }) notes → NotesUpTo b s from most before r notes
-    handed a e p = subst (λ (y : Noted). NotesUpTo b s from most before y notes) (sym (back ∙ (λ i. record { book = that i; at = at; answer = e i; count = count }))) p
+  pub turn_stops : (a : ℕ) → reach_of (drop at s) ≡ refused a → NotesUpTo b s from most before (record { book = c; at = at; answer = a; count = count }) notes
+  unfolding walk_up_to
+  turn_stops a e = ends a (go l.fuel)
+    where
+      go : (f : ℕ) → walk_up_to f s at ≡ record { messages = []; at = at; answer = a }
+      go zero = rw e
+      go (suc f) = rw e
 
-    pub turn_stops : (a : ℕ) → reach_of (drop at s) ≡ refused a → stop ≡ a → NotesUpTo b s from most before r notes
-    unfolding walk_up_to
-    turn_stops a e is = handed a is (ends a (go l.fuel))
-      where
-        go : (f : ℕ) → walk_up_to f s at ≡ record { messages = []; at = at; answer = a }
-        go zero = rw e
-        go (suc f) = rw e
-
-    -- as many as there may be
-    pub turn_full : (n : ℕ) → reach_of (drop at s) ≡ done n → most ≤ count → stop ≡ 15 → NotesUpTo b s from most before r notes
-    unfolding walk_up_to
-    turn_full n e h is = handed 15 is (ends 15 (go l.fuel l.spent))
-      where
-        go : (f : ℕ) → count + f ≡ most → walk_up_to f s at ≡ record { messages = []; at = at; answer = 15 }
-        go zero z = rw e
-        go (suc f) z = absurd (omega (arith, z, h))
+  -- as many as there may be
+  pub turn_full : (n : ℕ) → reach_of (drop at s) ≡ done n → most ≤ count → NotesUpTo b s from most before (record { book = c; at = at; answer = 15; count = count }) notes
+  unfolding walk_up_to
+  turn_full n e h = ends 15 (go l.fuel l.spent)
+    where
+      go : (f : ℕ) → count + f ≡ most → walk_up_to f s at ≡ record { messages = []; at = at; answer = 15 }
+      go zero z = rw e
+      go (suc f) z = absurd (omega (arith, z, h))
 
   module _ (n : ℕ) (e : reach_of (drop at s) ≡ done n) where
     pub turn_less : length s - (at + n) < length s - at
     turn_less = omega (arith, move_within s at n e, (reached (drop at s) n e).least)
 
     -- one more is done
-    module _ (d : Decoded) (market : Market) (is : market ≡ market_of b.market) (q : decoded_as d ≡ read_of market (take (at + n - at) (drop at s))) (r : Done) (p : Steps c (step_of (view c) (decoded_as d)) r) (fresh : count < most) where
+    module _ (d : Result Decoded ReadError) (market : Market) (is : market ≡ (view b).market) (q : decoded_as d ≡ read_of market (take (at + n - at) (drop at s))) (r : Done) (p : Steps c (step_of (view c) (decoded_as d)) r) (fresh : count < most) where
       abbrev message : List ℕ
       message = take n (drop at s)
 
       read : step_of (view c) (decoded_as d) ≡ step_in (view c) message
-      read = ap (step_of (view c)) (q ∙ (λ i. read_of ((is ∙ sym (view_market b) ∙ sym l.same_market) i) (take (add-sub_cancel_left at n i) (drop at s))))
+      read = ap (step_of (view c)) (q ∙ (λ i. read_of ((is ∙ sym l.same_market) i) (take (add-sub_cancel_left at n i) (drop at s))))
 
       step_is : Wf b → step_of (view c) (decoded_as d) ≡ step_in (steps_of (view b) l.passed) message
       step_is w = read ∙ ap (λ (v : View). step_in v message) (l.same_view w)

@@ -2,8 +2,9 @@ pub mod State
 pub mod Registering
 pub mod Quote
 pub mod Depth
+pub mod Showing
 pub mod Step
 pub mod Walk
+pub mod Refused
 pub mod Promises
 pub mod Reached
-pub mod Planning

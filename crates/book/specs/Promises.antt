@@ -1,19 +1,22 @@
 -- What a call that changes the state promises.
-use Rattle.std.specs.Prelude.{Bool, true, false, [], ◌∷◌, ◌≡◌, ℕ, ◌+◌, ◌<◌, set}
+use Rattle.std.specs.Prelude.{Bool, true, false, [], ◌∷◌, ◌≡◌, ℕ, ◌+◌, ◌<◌, set, Result, Ok, Err}
 use Rattle.std.proofs.Math.Option.{some}
-use Rattle.feed.specs.Reader.{ruled}
+use Rattle.feed.specs.Reader.{ruled, numbered}
 use Rattle.places.specs.Places.{symbols, among}
 use Rattle.symbols.specs.State.{numbers, Entry}
+use Rattle.symbols.specs.Answers.{turn_number}
 use Rattle.symbols.specs.Turns.{staled}
 use Rattle.symbols.specs.Promises.{Alters}
+use Rattle.symbols.specs.declared.turns.TurnError.{TurnError}
 use Rattle.orders.specs.Rules.{apply_to}
 use Rattle.orders.specs.declared.Change.{Change}
 use Rattle.record.specs.declared.Deal.{Deal}
 use Rattle.book.specs.State.{Symbol, View, with_places, Next, entry_at, orders_at, record_at, symbol_of, view, place_in, symbol_in, Wf}
-use Rattle.book.specs.Step.{becomes, change_of, deal_of, symbol_made_stale, enacted, put}
+use Rattle.book.specs.Step.{becomes, change_of, deal_of, symbol_made_stale, enacted, put, act_on}
 use Rattle.book.specs.declared.Book.{Book}
 use Rattle.book.specs.declared.Done.{Done}
 use Rattle.book.specs.declared.acts.Effect.{Effect}
+use Rattle.places.specs.declared.seats.Seat.{Seat}
 
 -- the answers that change nothing
 abbrev pub unchanging : ℕ → Bool
@@ -45,7 +48,7 @@ pub record Steps (b : Book) (x : Next) (r : Done) : Type 0 where
   pub kept : unchanging r.answer ≡ true → r.book ≡ b
   pub obeys : Wf b → Obeys x r.book r.answer
 
--- ---- for the methods: place k has a symbol, whose expected number is one that a message can carry
+-- ---- place k has a symbol, whose expected number is one that a message can carry
 pub record Awaits (b : Book) (k : ℕ) : Type 0 where
   pub place : k < symbols
   pub entry : Entry
@@ -64,9 +67,14 @@ pub record MakesStale (b : Book) (k a : ℕ) (r : Done) : Type 0 where
 pub record Enacts (b : Book) (k : ℕ) (c : Change) (d : Deal) (r : Done) : Type 0 where
   pub market : (view r.book).market ≡ (view b).market
   pub changes : unchanging r.answer ≡ false
-  pub obeys : (e : Entry) → entry_at b k ≡ some e → Wf b
-      → Obeys (put (view b) k (enacted (symbol_of e (orders_at b k) (record_at b k)) d (ruled false false false (apply_to (orders_at b k) c)))) r.book r.answer
+  pub obeys : (t : Awaits b k) → Wf b
+      → Obeys (put (view b) k (enacted (symbol_of t.entry (orders_at b k) (record_at b k)) d (ruled false false false (apply_to (orders_at b k) c)))) r.book r.answer
 
 -- so with a message in its turn
 abbrev pub Settles : Book → ℕ → Effect → Done → Type 0
 Settles b k e r = Enacts b k (change_of e) (deal_of e) r
+
+-- a numbered message is in its turn, and what settles it at this seat is its step; or it is refused, and that is its step whatever it does
+abbrev pub InTurn : Book → ℕ → ℕ → Book → Result Seat TurnError → Type 0
+InTurn b index n a (Ok s) = (a ≡ b) × ((e : Effect) (r : Done) → Settles b s.place e r → Steps b (act_on (view b) (numbered index n e)) r)
+InTurn b index n a (Err t) = (e : Effect) → Steps b (act_on (view b) (numbered index n e)) (record { book = a; answer = turn_number t })

@@ -1,5 +1,6 @@
 -- What a quote and the day's volume are: document 01, "The book" and "The trade record".
-use Rattle.std.specs.Prelude.{Bool, true, false, List, ◌≡◌, ℕ, ◌+◌}
+use Rattle.std.specs.Prelude as sides
+use Rattle.std.specs.Prelude.{Bool, true, false, List, ◌≡◌, ℕ, ◌+◌, None}
 use Rattle.std.proofs.Math.Option.{Option, none, some}
 use Rattle.orders.specs.Levels.{level_of}
 use Rattle.orders.specs.declared.Order.{Order}
@@ -11,7 +12,7 @@ use Rattle.book.specs.declared.quote.Volume.{Volume}
 
 -- refused, with 5 or else with 8, there is none on either side
 abbrev pub no_quote : ℕ → Quote
-no_quote a = record { answer = a; bid = Level.Empty; ask = Level.Empty }
+no_quote a = record { answer = a; bid = None; ask = None }
 
 abbrev pub quoted_if : Bool → List Order → Quote
 quoted_if true os = no_quote 8
@@ -39,6 +40,6 @@ pub record Replaces (old new : ℕ) (before after : Volume) : Type 0 where
   pub whole : after.whole ≡ before.whole
 
 -- ---- what is said of a quote: one side of it
-abbrev pub side_of : Bool → Quote → Level
+abbrev pub side_of : Bool → Quote → sides.Option Level
 side_of true q = q.bid
 side_of false q = q.ask

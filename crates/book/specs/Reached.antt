@@ -1,5 +1,5 @@
 -- A state is a new one, or one that a call handed back: document 01, "The book". Never one put together by hand.
-use Rattle.std.specs.Prelude.{List, ◌≡◌, ℕ}
+use Rattle.std.specs.Prelude.{List, ◌≡◌, ℕ, Option}
 use Rattle.markets.specs.declared.Market.{Market}
 use Rattle.book.specs.State.{view, Fresh}
 use Rattle.book.specs.Registering.{register_of, told_in}
@@ -28,7 +28,7 @@ pub record Alike (a b : Book) : Type 0 where
       → (q.answer ≡ r.answer) × (q.offset ≡ r.offset) × (q.at ≡ r.at) × (q.stops ≡ r.stops) × (view q.book ≡ view r.book)
   pub running : (s : List ℕ) (at : ℕ) (q r : Ran) → Runs a s at q → Runs b s at r
       → (q.answer ≡ r.answer) × (q.at ≡ r.at) × (view q.book ≡ view r.book)
-  pub telling : (index : ℕ) (q r : Listing) → q ≡ told_in index (view a) → r ≡ told_in index (view b) → q ≡ r
+  pub telling : (index : ℕ) (q r : Option Listing) → q ≡ told_in index (view a) → r ≡ told_in index (view b) → q ≡ r
   pub quoting : (index : ℕ) (q r : Quote) → q ≡ quote_of index (view a) → r ≡ quote_of index (view b) → q ≡ r
   pub summing : (index : ℕ) (q r : Volume) → q ≡ volume_of index (view a) → r ≡ volume_of index (view b) → q ≡ r
   pub market : (q r : Market) → q ≡ (view a).market → r ≡ (view b).market → q ≡ r

@@ -1,5 +1,5 @@
 -- Registering a symbol, and what is told of one: document 01, "Numbers answered". The rows stand in `symbols`.
-use Rattle.std.specs.Prelude.{List, [], ℕ}
+use Rattle.std.specs.Prelude.{List, [], ℕ, Option, Some, None}
 use Rattle.std.proofs.Math.Option.{map}
 use Rattle.symbols.specs.State.{Entry}
 use Rattle.record.specs.State.{nothing_kept}
@@ -20,5 +20,10 @@ abbrev pub register_of : View → ℕ → List ℕ → ℕ → Next
 register_of v index name scale = placing v (registered entry_of started v.places index name scale)
 
 -- ---- what is told of a symbol hangs on its entry
-unfoldable pub told_in : ℕ → View → Listing
+unfoldable pub told_in : ℕ → View → Option Listing
 told_in index v = told_of (map entry_of (symbol_in index v))
+
+-- document 01's number of it: where nobody is registered, 5
+abbrev pub told_number : Option Listing → ℕ
+told_number (Some l) = 0
+told_number None = 5

@@ -5,9 +5,8 @@ ghost use Rattle.book.specs.Depth.{no_depth, depth_of};
 
 use crate::Book;
 use orders::{LEVELS, LevelRow, no_rows};
-use places::SYMBOLS;
 
-// Ten rows a side, best first. Those that are not needed come last, and are marked.
+// Ten rows a side, best first. Those that are not needed come last, and are marked. The number and the marks stay, as the layout is C's.
 #[repr(C)]
 #[derive(Clone, Copy)]
 pub struct Depth {
@@ -18,23 +17,16 @@ pub struct Depth {
 
 impl Book {
     // The levels of both sides. Refused with 5 or 8, no row is used.
-    pub fn depth(self, index: u32) -> Depth
-        ensures { result ≡ depth_of index (view self) }
+    pub fn depth(&self, index: u32) -> Depth
+        ensures { result ≡ depth_of index (view self.now) }
     {
-        let symbols = self.symbols;
-        let k = symbols.place_of(index);
-        if SYMBOLS <= k {
-            return no_depth(5);
-        }
-        let s = symbols.standing(k);
-        if s.stale {
-            return no_depth(8);
-        }
-        let orders = self.orders;
-        Depth {
-            answer: 0,
-            bids: orders.rows(k, true),
-            asks: orders.rows(k, false),
+        match self.shown(index) {
+            Ok(k) => Depth {
+                answer: 0,
+                bids: self.orders.rows(k, true),
+                asks: self.orders.rows(k, false),
+            },
+            Err(why) => no_depth(u8::from(why)),
         }
     }
 }

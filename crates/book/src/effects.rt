@@ -1,90 +1,94 @@
-// The methods: a message in its turn meets its symbol, at place k.
+// The methods, as document 01 names them: a message in its turn meets its symbol, at its seat. Each returns the next state and the answer.
+ghost use Rattle.std.specs.Prelude.{◌≡◌};
 ghost use Rattle.feed.specs.Reader.{clearing};
+ghost use Rattle.wire.specs.Outcome.{told_by};
 ghost use Rattle.book.specs.State.{view};
-ghost use Rattle.book.specs.Promises.{Steps, Awaits, Settles};
+ghost use Rattle.book.specs.Promises.{Steps, Settles, Enacts};
+ghost use Rattle.book.specs.Refused.{refused_number};
 ghost use Rattle.book.specs.Step.{act_on};
 
 use crate::acts::Effect;
+use crate::refused::Refused;
 use crate::{Book, Done};
 use orders::Change;
-use places::SYMBOLS;
+use places::Seat;
 use record::Deal;
 
 impl Book {
-    pub(crate) fn add(self, k: usize, order: u64, buy: bool, price: u32, volume: u32) -> Done
-        requires { Awaits self k }
-        ensures { Settles self k (Effect.Add order buy price volume) result }
+    pub(crate) fn add(self, seat: Seat, order: u64, buy: bool, price: u32, volume: u32) -> Done
+        ensures { Settles self seat.place (Effect.Add order buy price volume) result }
     {
-        self.enact(k, Change::Add(order, buy, price, volume), Deal::Nothing)
+        self.enacted(seat, Change::Add(order, buy, price, volume), Deal::Nothing)
     }
 
-    pub(crate) fn modify(self, k: usize, order: u64, buy: bool, price: u32, volume: u32) -> Done
-        requires { Awaits self k }
-        ensures { Settles self k (Effect.Modify order buy price volume) result }
+    pub(crate) fn modify(self, seat: Seat, order: u64, buy: bool, price: u32, volume: u32) -> Done
+        ensures { Settles self seat.place (Effect.Modify order buy price volume) result }
     {
-        self.enact(k, Change::Modify(order, buy, price, volume), Deal::Nothing)
+        self.enacted(
+            seat,
+            Change::Modify(order, buy, price, volume),
+            Deal::Nothing,
+        )
     }
 
-    pub(crate) fn delete(self, k: usize, order: u64) -> Done
-        requires { Awaits self k }
-        ensures { Settles self k (Effect.Delete order) result }
+    pub(crate) fn delete(self, seat: Seat, order: u64) -> Done
+        ensures { Settles self seat.place (Effect.Delete order) result }
     {
-        self.enact(k, Change::Delete(order), Deal::Nothing)
+        self.enacted(seat, Change::Delete(order), Deal::Nothing)
     }
 
-    pub(crate) fn execute(self, k: usize, order: u64, volume: u32, deal: Deal) -> Done
-        requires { Awaits self k }
-        ensures { Settles self k (Effect.Execute order volume deal) result }
+    pub(crate) fn execute(self, seat: Seat, order: u64, volume: u32, deal: Deal) -> Done
+        ensures { Settles self seat.place (Effect.Execute order volume deal) result }
     {
-        self.enact(k, Change::Execute(order, volume), deal)
+        self.enacted(seat, Change::Execute(order, volume), deal)
     }
 
     pub(crate) fn replace(
         self,
-        k: usize,
+        seat: Seat,
         old: u64,
         order: u64,
         buy: bool,
         price: u32,
         volume: u32,
     ) -> Done
-        requires { Awaits self k }
-        ensures { Settles self k (Effect.Replace old order buy price volume) result }
+        ensures { Settles self seat.place (Effect.Replace old order buy price volume) result }
     {
-        self.enact(
-            k,
+        self.enacted(
+            seat,
             Change::Replace(old, order, buy, price, volume),
             Deal::Nothing,
         )
     }
 
     // A numbered message that changes no order.
-    pub(crate) fn other(self, k: usize, deal: Deal) -> Done
-        requires { Awaits self k }
-        ensures { Settles self k (Effect.Other deal) result }
+    pub(crate) fn other(self, seat: Seat, deal: Deal) -> Done
+        ensures { Settles self seat.place (Effect.Other deal) result }
     {
-        self.enact(k, Change::Nothing, deal)
+        self.enacted(seat, Change::Nothing, deal)
     }
 
     pub(crate) fn clear(mut self, index: u32, next: u32) -> Done
         ensures { Steps self (act_on (view self) (clearing index next)) result }
     {
-        let symbols = self.symbols;
-        let k = symbols.place_of(index);
-        if SYMBOLS <= k {
-            return Done {
-                book: self,
-                answer: 5,
-            };
-        }
-        let anew = symbols.restart(k, next);
-        let live = self.orders;
-        let orders = live.clear(k);
-        self.symbols = anew;
-        self.orders = orders;
+        let r = self.restart(index, next);
+        self.done(r)
+    }
+
+    fn enacted(mut self, seat: Seat, change: Change, deal: Deal) -> Done
+        ensures { Enacts self seat.place change deal result }
+    {
+        let r = self.enact(seat, change, deal);
+        self.done(r)
+    }
+
+    // In document 01's number.
+    pub(crate) fn done(self, r: Result<(), Refused>) -> Done
+        ensures { result ≡ record { book = self; answer = told_by refused_number r } }
+    {
         Done {
             book: self,
-            answer: 0,
+            answer: wire::number_of(r),
         }
     }
 }

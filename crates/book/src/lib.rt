@@ -1,15 +1,14 @@
 // The state of a market's eight symbols, with their orders and their trade records, and what a message does to it.
 //
-// A state is taken by value and the next one is handed back. Its fields are private: nobody outside puts one together by hand.
+// Outside, a state is taken by value and the next one is handed back; inside, it is changed in place. Its fields are private: nobody outside puts one together by hand.
 #![tactic(auto)]
 
 mod acts;
 mod depth;
 mod effects;
-mod hearing;
 mod naming;
-mod plans;
 mod quote;
+mod refused;
 mod step;
 mod store;
 mod walk;
@@ -35,7 +34,7 @@ pub struct Book {
     market: u16,
 }
 
-// The next state, and document 01's number.
+// The next state, and document 01's number: its methods return both whatever the answer is (`Steps`), and the layout is C's.
 #[repr(C)]
 #[derive(Clone, Copy)]
 pub struct Done {
@@ -55,13 +54,13 @@ impl Book {
             symbols,
             orders,
             trades,
-            market: markets::number_of(market),
+            market: u16::from(market),
         }
     }
 
     // The market that the state was made for.
-    pub fn market(self) -> Market
-        ensures { result ≡ (view self).market }
+    pub fn market(&self) -> Market
+        ensures { result ≡ (view self.now).market }
     {
         markets::market_of(self.market)
     }

@@ -12,28 +12,32 @@ impl Book {
     pub fn register(mut self, index: u32, name: &[u8], scale: u8) -> Done
         ensures { Steps self (register_of (view self) index name.now scale) result }
     {
-        let symbols = self.symbols;
-        let r = symbols.register(index, name, scale);
-        let next = r.symbols;
-        self.symbols = next;
-        Done {
-            book: self,
-            answer: r.answer,
+        match self.symbols.register(index, name, scale) {
+            Ok(next) => {
+                self.symbols = next;
+                Done {
+                    book: self,
+                    answer: 0,
+                }
+            }
+            Err(e) => Done {
+                book: self,
+                answer: u8::from(e),
+            },
         }
     }
 
     // The symbols by themselves: whoever asks of many messages hands on these and not the whole state.
-    pub fn names(self) -> Symbols
-        ensures { result ≡ self.symbols }
+    pub fn names(&self) -> Symbols
+        ensures { result ≡ self.now.symbols }
     {
         self.symbols
     }
 
-    // What was registered under an index, or 5.
-    pub fn symbol(self, index: u32) -> Listing
-        ensures { result ≡ told_in index (view self) }
+    // What was registered under an index.
+    pub fn symbol(&self, index: u32) -> Option<Listing>
+        ensures { result ≡ told_in index (view self.now) }
     {
-        let symbols = self.symbols;
-        symbols.told(index)
+        self.symbols.told(index)
     }
 }

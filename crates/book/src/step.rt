@@ -1,88 +1,103 @@
-// The step over what reading answered.
+// The step over what reading answered: in place, as the run takes it, and by value.
 ghost use Rattle.std.specs.Prelude.{◌≡◌};
 ghost use Rattle.feed.specs.Reader.{numbered};
+ghost use Rattle.wire.specs.Outcome.{told_by};
 ghost use Rattle.wire.specs.Reading.{decoded_as};
 ghost use Rattle.book.specs.State.{view};
-ghost use Rattle.book.specs.Promises.{Steps, Awaits, Settles};
+ghost use Rattle.book.specs.Promises.{Steps, Settles, InTurn};
+ghost use Rattle.book.specs.Refused.{refused_number};
 ghost use Rattle.book.specs.Step.{act_on, meant, step_of};
 
-use crate::acts::{Act, Effect, act_of};
+use crate::acts::{Act, Effect, act_of, change_of, deal_of};
+use crate::refused::Refused;
 use crate::{Book, Done};
-use wire::{Answer, Decoded, Message};
-
-// The next state, document 01's number, and beside a 4 the offset of the first bad field.
-#[derive(Clone, Copy)]
-pub(crate) struct Stepped {
-    pub(crate) book: Book,
-    pub(crate) answer: u8,
-    pub(crate) offset: usize,
-}
+use places::Seat;
+use symbols::TurnError;
+use wire::{Decoded, Message, ReadError};
 
 impl Book {
-    pub(crate) fn step(self, d: Decoded) -> Stepped
-        ensures steps { Steps self (step_of (view self) (decoded_as d)) (record { book = result.book; answer = result.answer }) }
-        ensures offset { result.offset ≡ (decoded_as d).offset }
+    // In place. What is refused leaves the state as it was, or a stale symbol.
+    pub(crate) fn pass(&mut self, read: Result<Decoded, ReadError>) -> Result<(), Refused>
+        ensures { Steps self.old (step_of (view self.old) (decoded_as read)) (record { book = self.new; answer = told_by refused_number result }) }
     {
-        let a = d.answer;
-        let Answer::Message(m) = a else {
-            return Stepped {
+        let d = read?;
+        match act_of(d.message) {
+            Act::Clear(index, next) => self.restart(index, next),
+            Act::Numbered(index, number, effect) => self.pass_numbered(index, number, effect),
+        }
+    }
+
+    fn pass_numbered(&mut self, index: u32, number: u32, effect: Effect) -> Result<(), Refused>
+        ensures { Steps self.old (act_on (view self.old) (numbered index number effect)) (record { book = self.new; answer = told_by refused_number result }) }
+    {
+        let seat = self.due(index, number)?;
+        self.enact(seat, change_of(effect), deal_of(effect))
+    }
+
+    // The seat of a numbered message's symbol, where it is the message's turn. One above the expected number makes the symbol stale; other refusals change nothing.
+    fn due(&mut self, index: u32, number: u32) -> Result<Seat, TurnError>
+        ensures { InTurn self.old index number self.new result }
+    {
+        let Some(seat) = self.symbols.seat(index) else {
+            return Err(TurnError::Unknown);
+        };
+        match self.symbols.turn_at(seat.place, number) {
+            Ok(()) => Ok(seat),
+            Err(TurnError::Gap) => {
+                self.symbols.make_stale(seat.place);
+                Err(TurnError::Gap)
+            }
+            Err(e) => Err(e),
+        }
+    }
+
+    // By value, in the form that document 01 asks of the step and of the methods; each method does on its own copy what `enact` does in place.
+    pub(crate) fn step(self, read: Result<Decoded, ReadError>) -> Done
+        ensures { Steps self (step_of (view self) (decoded_as read)) result }
+    {
+        let Ok(d) = read else {
+            return Done {
                 book: self,
-                answer: wire::number_of_answer(a),
-                offset: wire::offset_of_answer(a),
+                answer: wire::number_of(read),
             };
         };
-        let r = self.act(m);
-        let next = r.book;
-        Stepped {
-            book: next,
-            answer: r.answer,
-            offset: 0,
-        }
+        self.act(d.message)
     }
 
     // What a message that was read does.
     fn act(self, m: Message) -> Done
         ensures { Steps self (act_on (view self) (meant m)) result }
     {
-        let act = act_of(m);
-        match act {
+        match act_of(m) {
             Act::Clear(index, next) => self.clear(index, next),
             Act::Numbered(index, number, effect) => self.meet(index, number, effect),
         }
     }
 
     // A numbered message: is its symbol registered, is it in its turn, and then what it does.
-    fn meet(self, index: u32, number: u32, effect: Effect) -> Done
+    fn meet(mut self, index: u32, number: u32, effect: Effect) -> Done
         ensures { Steps self (act_on (view self) (numbered index number effect)) result }
     {
-        let symbols = self.symbols;
-        let k = symbols.place_of(index);
-        let t = symbols.turn_at(k, number);
-        if t == 7 {
-            return self.make_stale(k, 7);
+        match self.due(index, number) {
+            Ok(seat) => self.take(seat, effect),
+            Err(e) => self.done(Err(Refused::from(e))),
         }
-        if t != 0 {
-            return Done {
-                book: self,
-                answer: t,
-            };
-        }
-        self.take(k, effect)
     }
 
-    fn take(self, k: usize, effect: Effect) -> Done
-        requires { Awaits self k }
-        ensures { Settles self k effect result }
+    fn take(self, seat: Seat, effect: Effect) -> Done
+        ensures { Settles self seat.place effect result }
     {
         match effect {
-            Effect::Add(order, buy, price, volume) => self.add(k, order, buy, price, volume),
-            Effect::Modify(order, buy, price, volume) => self.modify(k, order, buy, price, volume),
-            Effect::Delete(order) => self.delete(k, order),
-            Effect::Execute(order, volume, deal) => self.execute(k, order, volume, deal),
-            Effect::Replace(old, order, buy, price, volume) => self.replace(
-                k, old, order, buy, price, volume,
+            Effect::Add(order, buy, price, volume) => self.add(seat, order, buy, price, volume),
+            Effect::Modify(order, buy, price, volume) => self.modify(
+                seat, order, buy, price, volume,
             ),
-            Effect::Other(deal) => self.other(k, deal),
+            Effect::Delete(order) => self.delete(seat, order),
+            Effect::Execute(order, volume, deal) => self.execute(seat, order, volume, deal),
+            Effect::Replace(old, order, buy, price, volume) => self.replace(
+                seat, old, order, buy, price, volume,
+            ),
+            Effect::Other(deal) => self.other(seat, deal),
         }
     }
 }

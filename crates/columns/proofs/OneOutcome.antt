@@ -3,11 +3,10 @@ use mathlib.Core.Path.{◌≡◌, sym, ◌∙◌}
 use mathlib.Core.List.{List}
 use Prim.Native.Nat.{ℕ}
 use lib.ListN.{length, take}
-use Rattle.columns.specs.Held.{held, Shows, Adds}
-use Rattle.columns.specs.declared.Line.{Line}
+use Rattle.columns.specs.Held.{Shows, Adds}
 
-pub one_added : {l q r : Line} {x : List ℕ} → Adds l x q → Adds l x r → held q ≡ held r
+pub one_added : {l q r x : List ℕ} → Adds l x q → Adds l x r → q ≡ r
 one_added a b = a.adds ∙ sym b.adds
 
-pub one_shown : {l : Line} {q r : List ℕ} → Shows l q → Shows l r → take (length (held l)) q ≡ take (length (held l)) r
+pub one_shown : {l q r : List ℕ} → Shows l q → Shows l r → take (length l) q ≡ take (length l) r
 one_shown a b = a.shows ∙ sym b.shows

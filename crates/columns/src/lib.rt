@@ -1,92 +1,155 @@
 // The text of a line: separator, number, price, time and text byte, each once for every line.
 #![tactic(auto)]
 
-ghost use Rattle.std.specs.Prelude.{◌≡◌, [], ◌∷◌, ◌/◌, ◌^◌, length, take};
+ghost use Rattle.std.specs.Prelude.{ℕ, map, ◌≡◌, ◌≤◌, [], ◌∷◌, ◌/◌, ◌^◌, length};
 ghost use Rattle.columns.specs.Text.{comma, fixed, digits, text_byte};
 ghost use Rattle.columns.specs.Columns.{next, number, price, clock, bytes, text};
-ghost use Rattle.columns.specs.Held.{held, Shows, Adds};
+ghost use Rattle.columns.specs.Held.{room, Adds};
+
+use std::marker::Model;
 
 // Room for a line, or for a quote, at any scale that a byte can hold. At a scale that can be registered a line has at most 111 bytes.
 pub const ROOM: usize = 640;
 
-// A line under construction: what it holds is its first len bytes.
-#[derive(Clone, Copy)]
+// A line under construction, which is seen as what it holds: its first len bytes. Its room is an array with a length, since a library has no heap.
+#[derive(Drop)]
 pub struct Line {
     bytes: [u8; ROOM],
     len: usize,
 }
 
-// A line that holds nothing.
-pub fn blank() -> Line
-    ensures { held result ≡ [] }
-{
-    Line {
-        bytes: [0u8; ROOM],
-        len: 0,
-    }
+impl Model for Line {
+    ghost use Rattle.std.specs.Prelude.{◌≤◌, List, ℕ};
+
+    ghost Value = { List ℕ };
+
+    ghost use Rattle.columns.specs.Held.{held, room};
+
+    ghost view = { held };
+
+    ghost invariant = { λ l. l.len ≤ room };
 }
 
-// How many bytes a line holds.
-pub fn count(l: Line) -> usize
-    ensures { result ≡ length (held l) }
-{
-    let n = l.len;
-    if ROOM < n {
-        return ROOM;
-    }
-    n
-}
-
-// The bytes of a line: the first count(l) of them are what it holds.
-pub fn bytes(l: Line) -> [u8; ROOM]
-    ensures { Shows l result }
-{
-    l.bytes
-}
-
-// One byte more, as far as there is room.
-pub fn push(l: Line, b: u8) -> Line
-    ensures { Adds l (b ∷ []) result }
-{
-    let at = l.len;
-    if ROOM <= at {
-        return l;
-    }
-    let mut more = l;
-    more.bytes[at] = b;
-    more.len = at + 1;
-    more
-}
-
-pub fn put_separator(l: Line) -> Line
-    ensures { Adds l (comma ∷ []) result }
-{
-    push(l, b',')
-}
-
-// The last w digits of n.
-fn put_fixed(l: Line, n: u64, w: usize) -> Line
-    ensures { Adds l (fixed w n) result }
-{
-    let mut r = l;
-    let mut i = w;
-    while 0 < i {
-        i -= 1;
-        let b = (48 + units(n, i) % 10) as u8;
-        let at = r.len;
-        if at < ROOM {
-            r.bytes[at] = b;
-            r.len = at + 1;
+impl Line {
+    // A line that holds nothing.
+    pub fn blank() -> Line
+        ensures { result ≡ [] }
+    {
+        Line {
+            bytes: [0u8; ROOM],
+            len: 0,
         }
     }
-    r
-}
 
-// The digits of n without leading zeros.
-pub fn put_number(l: Line, n: u64) -> Line
-    ensures { Adds l (digits n) result }
-{
-    put_fixed(l, n, width(n))
+    // How many bytes the line holds.
+    pub fn count(&self) -> usize
+        ensures { result ≡ length self.now }
+    {
+        self.bytes().len()
+    }
+
+    // What the line holds.
+    pub fn bytes(&self) -> &[u8]
+        ensures whole { result.now ≡ self.now }
+        ensures fits { length result.now ≤ room }
+    {
+        &self.bytes[..self.len]
+    }
+
+    // One byte more, as far as there is room.
+    pub fn push(&mut self, b: u8)
+        ensures { Adds self.old (b ∷ []) self.new }
+    {
+        if self.len < ROOM {
+            self.bytes[self.len] = b;
+            self.len += 1;
+        }
+    }
+
+    pub fn put_separator(&mut self)
+        ensures { Adds self.old (comma ∷ []) self.new }
+    {
+        self.push(b',');
+    }
+
+    // The last w digits of n.
+    fn put_fixed(&mut self, n: u64, w: usize)
+        ensures { Adds self.old (fixed w n) self.new }
+    {
+        // with no digit the line stays as it is, within its room
+        prove!(self.len <= ROOM);
+        for i in (0..w).rev() {
+            self.push((48 + units(n, i) % 10) as u8);
+        }
+    }
+
+    // The digits of n without leading zeros.
+    pub fn put_number(&mut self, n: u64)
+        ensures { Adds self.old (digits n) self.new }
+    {
+        self.put_fixed(n, width(n));
+    }
+
+    pub fn number_column(&mut self, n: u64)
+        ensures { Adds self.old (next (number n)) self.new }
+    {
+        self.put_separator();
+        self.put_number(n);
+    }
+
+    pub fn price_column(&mut self, p: u32, s: u8)
+        ensures { Adds self.old (next (price s p)) self.new }
+    {
+        let scale = s as usize;
+        self.put_separator();
+        self.put_number(units(p as u64, scale));
+        if scale != 0 {
+            self.push(b'.');
+            self.put_fixed(p as u64, scale);
+        }
+    }
+
+    // A second of the day with nanoseconds: HH:MM:SS, a point and nine digits.
+    pub fn clock_column(&mut self, second: u32, nanos: u32)
+        ensures { Adds self.old (next (clock second nanos)) self.new }
+    {
+        let of_day = second as u64;
+        self.put_separator();
+        self.put_fixed(of_day / 3600, 2);
+        self.push(b':');
+        self.put_fixed(of_day / 60 % 60, 2);
+        self.push(b':');
+        self.put_fixed(of_day % 60, 2);
+        self.push(b'.');
+        self.put_fixed(nanos as u64, 9);
+    }
+
+    // Bytes as they are.
+    pub fn bytes_column(&mut self, s: &[u8])
+        ensures { Adds self.old (next (bytes s.now)) self.new }
+    {
+        self.shown_column(s, |b| b);
+    }
+
+    // The same, each byte by the firm's rule.
+    pub fn text_column(&mut self, s: &[u8])
+        ensures { Adds self.old (next (text s.now)) self.new }
+    {
+        self.shown_column(s, text_byte);
+    }
+
+    // Bytes, each as it is shown.
+    fn shown_column<F: Fn(u8) -> u8>(&mut self, s: &[u8], shown: F)
+        ghost rule: { ℕ → ℕ }
+        requires callable { F.IsAlwaysCallable shown }
+        requires shows { (b r : ℕ) → F.post shown b r → r ≡ rule b }
+        ensures { Adds self.old (comma ∷ map rule s.now) self.new }
+    {
+        self.put_separator();
+        for b in s {
+            self.push(shown(*b));
+        }
+    }
 }
 
 // How many digits n has.
@@ -113,83 +176,9 @@ fn units(p: u64, s: usize) -> u64
 fn text_byte(b: u8) -> u8
     ensures { result ≡ text_byte b }
 {
-    if b < 0x21 {
-        return b' ';
+    match b {
+        b',' => b' ',
+        0x21..=0x7E => b,
+        _ => b' ',
     }
-    if 0x7E < b {
-        return b' ';
-    }
-    if b == b',' {
-        return b' ';
-    }
-    b
-}
-
-pub fn number_column(l: Line, n: u64) -> Line
-    ensures { Adds l (next (number n)) result }
-{
-    put_number(put_separator(l), n)
-}
-
-pub fn price_column(l: Line, p: u32, s: u8) -> Line
-    ensures { Adds l (next (price s p)) result }
-{
-    let front = put_number(put_separator(l), units(p as u64, s as usize));
-    if s == 0 {
-        return front;
-    }
-    put_fixed(push(front, b'.'), p as u64, s as usize)
-}
-
-// A second of the day with nanoseconds: HH:MM:SS, a point and nine digits.
-pub fn clock_column(l: Line, second: u32, nanos: u32) -> Line
-    ensures { Adds l (next (clock second nanos)) result }
-{
-    let of_day = second as u64;
-    let hours = put_fixed(put_separator(l), of_day / 3600, 2);
-    let minutes = put_fixed(push(hours, b':'), of_day / 60 % 60, 2);
-    let seconds = put_fixed(push(minutes, b':'), of_day % 60, 2);
-    put_fixed(push(seconds, b'.'), nanos as u64, 9)
-}
-
-// The first n bytes of s as they are, or all where there are fewer.
-pub fn bytes_column(l: Line, s: &[u8], n: usize) -> Line
-    ensures { Adds l (next (bytes (take n s.now))) result }
-{
-    let mut r = put_separator(l);
-    let mut i = 0;
-    while i < n {
-        if s.len() <= i {
-            return r;
-        }
-        let b = s[i];
-        i += 1;
-        let at = r.len;
-        if at < ROOM {
-            r.bytes[at] = b;
-            r.len = at + 1;
-        }
-    }
-    r
-}
-
-// The same, each byte by the firm's rule.
-pub fn text_column(l: Line, s: &[u8], n: usize) -> Line
-    ensures { Adds l (next (text (take n s.now))) result }
-{
-    let mut r = put_separator(l);
-    let mut i = 0;
-    while i < n {
-        if s.len() <= i {
-            return r;
-        }
-        let b = text_byte(s[i]);
-        i += 1;
-        let at = r.len;
-        if at < ROOM {
-            r.bytes[at] = b;
-            r.len = at + 1;
-        }
-    }
-    r
 }

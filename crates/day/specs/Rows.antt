@@ -1,4 +1,5 @@
 -- A day in symbol ABC: document 01's lettered cases. A to K are rows, L is a line of the page, and `Day` is all of them.
+use Rattle.std.specs.Prelude as answers
 use Rattle.std.specs.Prelude.{ℕ, ◌≤◌, List, [], ◌∷◌, ◌++◌, ◌≡◌, length, take, drop}
 use Rattle.wire.specs.Outcome.{done, only}
 use Rattle.wire.specs.Reading.{reach_of, read_as, read_of}
@@ -10,7 +11,7 @@ use Rattle.book.specs.Walk.{landing, move_of, steps_of, Moves}
 use Rattle.book.specs.declared.Book.{Book}
 use Rattle.book.specs.declared.walk.Moved.{Moved}
 use Rattle.book.specs.declared.quote.Quote.{Quote}
-use Rattle.page.specs.declared.Printed.{Printed}
+use Rattle.page.specs.declared.LineError.{LineError}
 use Rattle.page.specs.Printing.{printed, line_of, told}
 use Rattle.page.specs.Marked as marked
 use Rattle.demands.specs.Demand3.{Reads}
@@ -112,7 +113,7 @@ rows =
 -- ---- L: the line of #3, an add, read from its bytes, into any buffer that has room
 pub record LineL : Type 0 where
   pub reads : (market : Market) → read_of market (add 3 1001 buy 1234500 200) ≡ read_as (only (done marked.add)) marked.firm
-  pub by_calls : {market : Market} {b : Book} (p : Printed) (out after : List ℕ) → HasABC market b → (Wf b → printed p after ≡ line_of (view b).market (told b marked.add) marked.add marked.firm marked.sequence_l marked.second_l out)
+  pub by_calls : {market : Market} {b : Book} (p : answers.Result ℕ LineError) (out after : List ℕ) → HasABC market b → (Wf b → printed p after ≡ line_of (view b).market (told b marked.add) marked.add marked.firm marked.sequence_l marked.second_l out)
       → length marked.line_l ≤ length out → printed p after ≡ leaving (only (done (length marked.line_l))) (marked.line_l ++ drop (length marked.line_l) out)
 
 -- ---- all of the day

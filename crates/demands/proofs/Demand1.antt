@@ -9,13 +9,14 @@ use mathlib.Core.Path.{◌≡◌, refl, sym, ap, ◌∙◌}
 use lib.Dec.{ltb, eqb}
 use lib.ListN.{length, take, drop}
 use borrow.Author.Tests.{eqb-true, eqb-false, ltb-true, ltb-false}
+use Rattle.std.specs.Prelude as told-of
+use Rattle.std.specs.Prelude.{None, Some, Result, Ok, Err}
 use Rattle.wire.specs.Outcome.{Outcome, done, refused, number_of}
 use Rattle.wire.specs.Reading.{least_size, msg_size, reach_of, read_of}
 use Rattle.wire.specs.Writing.{count_of, write_of}
 use Rattle.wire.specs.Fields.{fault_as}
 use Rattle.wire.specs.Message.{fault_in, bad_field_of}
 use Rattle.wire.specs.FirstBad.{Locates}
-use Rattle.wire.specs.declared.Fault.{Fault}
 use Rattle.wire.specs.declared.Message.{Message}
 use Rattle.markets.specs.declared.Market.{Market}
 use Rattle.wire.proofs.Cases.{done_is_not_refused, reached, reach_short, reach_small, reach_beyond, reach_size}
@@ -24,16 +25,19 @@ use Rattle.wire.proofs.Refusing.{reach_refused, read_refused, read_zeros, reache
 use Rattle.feed.specs.Reader.{Fit, fits, misfit, no_room, ruled, Act, clearing, numbered, index_of}
 use Rattle.places.specs.Places.{among}
 use Rattle.symbols.specs.State.{Entry, entries, itself}
+use Rattle.symbols.specs.Answers.{answered as answer_of, register_number}
+use Rattle.symbols.specs.Promises.{after}
 use Rattle.symbols.specs.Turns.{turn_answer, turn_at}
 use Rattle.symbols.specs.Registering.{told_of}
-use Rattle.symbols.specs.declared.registering.Listing.{Listing}
+use Rattle.symbols.specs.declared.registering.RegisterError.{RegisterError}
+use Rattle.symbols.specs.declared.Symbols.{Symbols}
 use Rattle.symbols.proofs.Finding.{register_answers}
 use Rattle.orders.specs.Rules.{apply_to}
 use Rattle.orders.specs.Promises.{fit_number}
-use Rattle.orders.specs.declared.Fit as code
+use Rattle.orders.specs.declared.Unfit.{Unfit}
 use Rattle.book.specs.State.{Symbol, View, Next, view, entry_of, place_in, symbol_in, live_of, live_in}
 use Rattle.book.specs.Step.{change_of, deal_of, enacted, meeting, act_at, act_on, meant, step_on, step_of, step_in}
-use Rattle.book.specs.Registering.{started, register_of}
+use Rattle.book.specs.Registering.{started, register_of, told_number}
 use Rattle.book.specs.Promises.{unchanging, staling, Steps}
 use Rattle.book.specs.Walk.{landing, stopping, offset_by, move_by, move_of, walk_of, run_of, Moves}
 use Rattle.book.specs.Reached.{Reached}
@@ -83,9 +87,9 @@ field_numbers : (market : Market) (m : Message) (plain : List ℕ) → OneOf (0 
 unfolding among
 field_numbers market m plain = go (fault_in market m plain)
   where
-    go : (x : Fault) → OneOf (0 ∷ 4 ∷ []) (number_of (fault_as x).outcome)
-    go Fault.Nothing = refl
-    go (Fault.At n) = refl
+    go : (x : told-of.Option ℕ) → OneOf (0 ∷ 4 ∷ []) (number_of (fault_as x).outcome)
+    go None = refl
+    go (Some n) = refl
 
 -- ---- the numbers of a message
 abbrev of_message : List ℕ
@@ -303,7 +307,7 @@ module _ {b : Book} (p : Reached b) {s : List ℕ} {at : ℕ} {r : Moved} (m : M
       go (refused n) e = absurd (unreached not more n e)
 
 -- ---- the rooms
-tell_numbers : (e : Option Entry) → OneOf (0 ∷ 5 ∷ []) (told_of e).answer
+tell_numbers : (e : Option Entry) → OneOf (0 ∷ 5 ∷ []) (told_number (told_of e))
 unfolding told_of among
 tell_numbers none = refl
 tell_numbers (some e) = refl
@@ -319,11 +323,16 @@ turn_numbers (some e) number = go e.standing.stale (ltb number e.standing.expect
     go false false true = refl
     go false false false = refl
 
-fit_numbers : (f : code.Fit) → OneOf (0 ∷ 9 ∷ 10 ∷ []) (fit_number f)
+fit_numbers : (r : Result (Unit {0}) Unfit) → OneOf (0 ∷ 9 ∷ 10 ∷ []) (fit_number r)
 unfolding among
-fit_numbers code.Fit.Fits = refl
-fit_numbers code.Fit.Misfit = refl
-fit_numbers code.Fit.NoRoom = refl
+fit_numbers (Ok x) = refl
+fit_numbers (Err Unfit.Misfit) = refl
+fit_numbers (Err Unfit.NoRoom) = refl
+
+-- what is refused leaves the symbols
+register_leaves : (b : Symbols) (r : Result Symbols RegisterError) → answer_of register_number r ≢ 0 → after b r ≡ b
+register_leaves b (Ok s) n = absurd (n refl)
+register_leaves b (Err e) n = refl
 
 -- ---- DEMAND 1
 module _ {b : Book} (p : Reached b) where
@@ -341,7 +350,7 @@ module _ {b : Book} (p : Reached b) where
   }
 
   rooms : Rooms
-  rooms = record { registering = λ index name scale m. m.kept; changing = λ k m. m.kept; dealing = λ k m. m.kept }
+  rooms = record { registering = λ {b = c} {r = r} index name scale m. register_leaves c r; changing = λ k m. m.kept; dealing = λ k m. m.kept }
 
   wire_numbers : WireNumbers
   wire_numbers = record { reaching = reach_numbers; reading = read_numbers; testing = field_numbers; writing = write_numbers }
@@ -415,7 +424,7 @@ module _ {b : Book} (p : Reached b) where
   questions = record {
     quoting = quote_refused (view b);
     summing = volume_refused (view b);
-    telling = λ index t n. t ∙ told_refused (view b) index (λ z. n (ap (λ (x : Listing). x.answer) t ∙ z));
+    telling = λ index t n. t ∙ told_refused (view b) index (λ z. n (ap told_number t ∙ z));
   }
 
   positions : Positions b

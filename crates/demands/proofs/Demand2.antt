@@ -1,7 +1,6 @@
 -- Demand 2: the laws of the book, brought to the states that the calls hand back.
 use Prim.Native.Nat.{ℕ, ◌+◌, ◌<◌}
-use native.Mathlib.Omega.{arith}
-use mathlib.Core.Bool.{Bool, true, false}
+use mathlib.Core.Bool.{Bool, true, false, false≢true}
 use mathlib.Core.List.{List, [], ◌∷◌}
 use mathlib.Core.Option.{Option, none, some}
 use mathlib.Core.Path.{◌≡◌, refl, sym, ap, ◌∙◌, subst}
@@ -20,8 +19,8 @@ use Rattle.book.specs.Step.{buys, if_printable, meant, act_on, step_in}
 use Rattle.book.specs.Walk.{walk_of, steps_of, run_of, Moves, Runs}
 use Rattle.book.specs.Reached.{Reached}
 use Rattle.book.specs.declared.Book.{Book}
-use Rattle.orders.specs.Levels.{TakesOff}
-use Rattle.orders.specs.declared.levels.Level.{Level}
+use Rattle.std.specs.Prelude.{is_some}
+use Rattle.orders.specs.Levels.{level_at, TakesOff}
 use Rattle.book.specs.declared.walk.Moved.{Moved}
 use Rattle.book.specs.declared.walk.Ran.{Ran}
 use Rattle.places.specs.Places.{look}
@@ -47,13 +46,13 @@ record Quoted (index : ℕ) (v : View) : Type 0 where
   pub symbol : Symbol
   pub there : symbol_in index v ≡ some symbol
 
-is_quoted : (buy : Bool) (index : ℕ) (v : View) (p n : ℕ) → side_of buy (quote_of index v) ≡ Level.Best p n → Quoted index v
+is_quoted : (buy : Bool) (index : ℕ) (v : View) (p n : ℕ) → side_of buy (quote_of index v) ≡ level_at p n → Quoted index v
 unfolding quote_of
 is_quoted buy index v p n q = go (symbol_in index v) refl buy q
   where
-    go : (x : Option Symbol) → symbol_in index v ≡ x → (side : Bool) → side_of side (quoted x) ≡ Level.Best p n → Quoted index v
-    go none e true z = absurd (let o : ◌≡◌ {A = ℕ} 0 1 = cc in omega arith)
-    go none e false z = absurd (let o : ◌≡◌ {A = ℕ} 0 1 = cc in omega arith)
+    go : (x : Option Symbol) → symbol_in index v ≡ x → (side : Bool) → side_of side (quoted x) ≡ level_at p n → Quoted index v
+    go none e true z = absurd (false≢true (ap is_some z))
+    go none e false z = absurd (false≢true (ap is_some z))
     go (some s) e side z = record { symbol = s; there = e }
 
 steps_others : (market : Market) (index : ℕ) (ms : List (List ℕ)) (v : View) → v.market ≡ market → AllNotFor market index ms → symbol_in index (steps_of v ms) ≡ symbol_in index v
@@ -74,7 +73,7 @@ left_out_of v x (unknown head cross volume new) there z = auctions.left_out_lem 
 module _ {b : Book} (p : Reached b) where
   add_raises : {s : List ℕ} {at : ℕ} {m : List ℕ} {r : Moved} → Moves b s at r
       → (head : Head) (order price volume side size : ℕ) → StandsAt s at m → (read_of (view b).market m).outcome ≡ done (Message.Add head order price volume side) → r.answer ≡ 0
-      → side_of (buys side) (quote_in b head.index) ≡ Level.Best price size → side_of (buys side) (quote_in r.book head.index) ≡ Level.Best price (size + volume)
+      → side_of (buys side) (quote_in b head.index) ≡ level_at price size → side_of (buys side) (quote_in r.book head.index) ≡ level_at price (size + volume)
   unfolding meant
   add_raises m head order price volume side size t e z q =
       let o = m.obeys (reached_wf p) in

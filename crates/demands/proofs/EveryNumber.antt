@@ -22,7 +22,7 @@ use Rattle.orders.specs.Rules.{apply_to}
 use Rattle.orders.specs.Levels.{level_of}
 use Rattle.record.specs.Rules.{deal_to}
 use Rattle.book.specs.State.{View, new_view}
-use Rattle.book.specs.Registering.{register_of, told_in}
+use Rattle.book.specs.Registering.{register_of, told_number, told_in}
 use Rattle.book.specs.Quote.{quote_of, volume_of}
 use Rattle.book.specs.Step.{enacted, meeting, act_on, meant, step_of}
 use Rattle.book.specs.Walk.{offset_by, move_of, walk_for, walk_of, steps_of}
@@ -109,8 +109,8 @@ pub record ByBook : Type 0 where
   pub quote_8 : (quote_of index (steps_of (view_abc nyse) (gap ∷ []))).answer ≡ 8
   pub volume_0 : (volume_of index (view_abc nyse)).answer ≡ 0
   pub volume_5 : (volume_of index (new_view nyse)).answer ≡ 5
-  pub symbol_0 : (told_in index (view_abc nyse)).answer ≡ 0
-  pub symbol_5 : (told_in index (new_view nyse)).answer ≡ 5
+  pub symbol_0 : told_number (told_in index (view_abc nyse)) ≡ 0
+  pub symbol_5 : told_number (told_in index (new_view nyse)) ≡ 5
 
 pub by_book : ByBook
 unfolding registered_to value little_endian shape_of first_bad fault_of reach_by reach_of read_by read_body read_sized read_shape read_typed read_reached read_of first_where insert remove look place_of found_in vacancy_of apply_to deal_to name_bad registering.registered registering.told_of told_in quote_of volume_of ruled enacted meeting act_on meant step_of steps_of

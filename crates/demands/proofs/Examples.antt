@@ -17,6 +17,7 @@ use Rattle.places.specs.Places.{first_where, fold, sum_by, insert, remove, look}
 use Rattle.symbols.specs.State.{place_of, found_in, vacancy_of}
 use Rattle.symbols.specs.Registering as registering
 use Rattle.symbols.specs.Registering.{name_bad}
+use Rattle.symbols.specs.Promises.{after}
 use Rattle.symbols.proofs.Entering.{some_entered}
 use Rattle.orders.specs.Rules.{apply_to}
 use Rattle.record.specs.Rules.{deal_to}
@@ -144,7 +145,7 @@ registers_abc : (market : Market) (b : Book) → Fresh market b → WithABC mark
 unfolding first_where name_bad
 registers_abc market b f =
     let e = some_entered index name scale (omega arith) refl in
-    record { book = with b e.result; has = registered f (registering_steps b index name scale e.result (rw f.names e.registers)) }
+    record { book = with b (after b.symbols e.result); has = registered f (registering_steps b index name scale e.result (rw f.names e.registers)) }
 
 pub some_has_abc : (market : Market) → WithABC market
 some_has_abc market = registers_abc market _ (fresh market)

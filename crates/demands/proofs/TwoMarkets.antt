@@ -2,6 +2,7 @@
 use mathlib.Core.Path.{◌≡◌, refl, sym, ap, ◌∙◌}
 use Prim.Native.Nat.{ℕ}
 use native.Mathlib.Omega.{arith}
+use Rattle.std.specs.Prelude as sides
 use Rattle.wire.specs.Outcome.{refused}
 use Rattle.wire.specs.Bytes.{value, little_endian}
 use Rattle.markets.specs.Conditions.{listed}
@@ -55,14 +56,20 @@ two_markets = record {
   nyse_quotes = refl;
 }
 
+-- the shares of a side, 0 where there is none
+size_of : sides.Option Level → ℕ
+size_of sides.None = 0
+size_of (sides.Some l) = l.size
+
 -- so without the premise the demand would be false
 pub two_markets_disagree : {b c first second : Book} → HasABC Market.Texas b → HasABC Market.Nyse c → Reads b (sent one_in_cash) first → Reads c (delivered one_in_cash) second
     → Quotes Reads b c one_in_cash first second → ⊥
+unfolding size_of
 two_markets_disagree {b = b} p q all rest claimed =
     let texas : (view b).market ≡ Market.Texas = ap (λ (v : View). v.market) (has_view p) in
     let one = ap (quote_of index) ((reads_after (began_wf (has_began p)) all).seen ∙ ap (λ (v : View). steps_of v (sent one_in_cash)) (has_view p)) ∙ two_markets.texas_quotes in
     let other = ap (quote_of index) ((reads_after (began_wf (has_began q)) rest).seen ∙ ap (λ (v : View). steps_of v (delivered one_in_cash)) (has_view q)) ∙ two_markets.nyse_quotes in
     let same : shows (200 at 1234500) no_level ≡ shows (150 at 1234500) no_level = sym other ∙ claimed.nothing_lost index (rw texas two_markets.nothing_lost) ∙ one in
-    let bid : ◌≡◌ {A = Level} (200 at 1234500) (150 at 1234500) = ap (λ (x : Quote). x.bid) same in
-    let size : ◌≡◌ {A = ℕ} 200 150 = cc in
+    let bid : ◌≡◌ {A = sides.Option Level} (200 at 1234500) (150 at 1234500) = ap (λ (x : Quote). x.bid) same in
+    let size : ◌≡◌ {A = ℕ} 200 150 = ap size_of bid in
     omega (arith, size)

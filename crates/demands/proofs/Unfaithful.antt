@@ -4,6 +4,7 @@ use mathlib.Core.List.{List}
 use mathlib.Core.Path.{◌≡◌, refl, sym, ap, ◌∙◌}
 use Prim.Native.Nat.{ℕ}
 use native.Mathlib.Omega.{arith}
+use Rattle.std.specs.Prelude as sides
 use Rattle.wire.specs.Bytes.{value, little_endian}
 use Rattle.wire.specs.Table.{shape_of}
 use Rattle.wire.specs.Fields.{first_bad, fault_of}
@@ -63,7 +64,7 @@ module _ (Takes : Book → List (List ℕ) → Book → Type 0) {market : Market
 pub no_idle_readers : {market : Market} {b c : Book} → HasABC market b → HasABC market c → Demand3 (λ s ms r. r ≡ s) b c → ⊥
 no_idle_readers {market = market} {c = c} p q demand =
     let shown : shows no_level no_level ≡ shows (200 at 1234500) no_level = sym (ap (quote_of index) (has_view q) ∙ (computed market).before) ∙ shows_an_add (λ s ms r. r ≡ s) demand p q refl refl in
-    let bid : ◌≡◌ {A = Level} no_level (200 at 1234500) = ap (λ (x : Quote). x.bid) shown in
+    let bid : ◌≡◌ {A = sides.Option Level} no_level (200 at 1234500) = ap (λ (x : Quote). x.bid) shown in
     let z : ◌≡◌ {A = ℕ} 0 1 = cc in
     omega arith
 
@@ -80,7 +81,7 @@ module _ (Takes : Book → List (List ℕ) → Book → Type 0) {market : Market
 
   no_row_lem : {first second : Book} → Takes b (sent one_add) first → Takes c (delivered one_add) second → as_level (row_at (depth_in second index).bids 0) ≡ no_level → ⊥
   no_row_lem all rest none =
-      let bid : ◌≡◌ {A = Level} no_level (200 at 1234500) = sym none ∙ shows_a_row all rest in
+      let bid : ◌≡◌ {A = sides.Option Level} no_level (200 at 1234500) = sym none ∙ shows_a_row all rest in
       let z : ◌≡◌ {A = ℕ} 0 1 = cc in
       omega arith
 

@@ -1,6 +1,7 @@
 -- Demand 1 of document 00, for a host's programmer: the numbers that each call answers with, where a bad field stands (M-111), what a refusal leaves, and how far each
 -- answer moves.
-use Rattle.std.specs.Prelude.{ℕ, ◌+◌, ◌≤◌, ◌<◌, true, false, List, [], ◌∷◌, ◌≢◌, ◌≡◌, length, drop, replicate}
+use Rattle.std.specs.Prelude as answers
+use Rattle.std.specs.Prelude.{None, Result, ℕ, ◌+◌, ◌≤◌, ◌<◌, true, false, List, [], ◌∷◌, ◌≢◌, ◌≡◌, length, drop, replicate}
 use Rattle.std.proofs.Math.Option.{Option}
 use Rattle.wire.specs.Outcome.{done, refused, number_of}
 use Rattle.wire.specs.Bytes.{plain_room}
@@ -12,25 +13,24 @@ use Rattle.wire.specs.declared.Message.{Message}
 use Rattle.markets.specs.declared.Market.{Market}
 use Rattle.feed.specs.Reader.{index_of}
 use Rattle.places.specs.Places.{among, sum_by}
-use Rattle.symbols.specs.State.{name_bytes, Entry}
+use Rattle.symbols.specs.State.{Entry}
 use Rattle.symbols.specs.Registering.{told_of}
 use Rattle.symbols.specs.Turns.{turn_at}
-use Rattle.symbols.specs.Promises.{Registers}
+use Rattle.symbols.specs.Answers.{answered, register_number}
+use Rattle.symbols.specs.Promises.{after, Registers}
 use Rattle.symbols.specs.declared.Symbols.{Symbols}
-use Rattle.symbols.specs.declared.registering.Entered.{Entered}
+use Rattle.symbols.specs.declared.registering.RegisterError.{RegisterError}
 use Rattle.orders.specs.Promises.{fit_number, Changes}
 use Rattle.orders.specs.declared.Orders.{Orders}
-use Rattle.orders.specs.declared.Fit.{Fit}
+use Rattle.orders.specs.declared.Unfit.{Unfit}
 use Rattle.orders.specs.declared.Change.{Change}
-use Rattle.orders.specs.declared.Changed.{Changed}
-use Rattle.record.specs.Promises.{Deals}
+use Rattle.record.specs.Promises.{Dealt, Deals}
 use Rattle.record.specs.declared.Record.{Record}
 use Rattle.record.specs.declared.Deal.{Deal}
-use Rattle.record.specs.declared.Dealt.{Dealt}
 use Rattle.symbols.specs.declared.registering.Listing.{Listing}
 use Rattle.book.specs.State.{view, live_in}
 use Rattle.book.specs.Promises.{BecomesStale, Steps}
-use Rattle.book.specs.Registering.{register_of, told_in}
+use Rattle.book.specs.Registering.{register_of, told_number, told_in}
 use Rattle.book.specs.Quote.{no_quote, volume_of}
 use Rattle.book.specs.Step.{meant}
 use Rattle.book.specs.Walk.{move_of, walk_of, steps_of, Moves, Runs}
@@ -68,14 +68,14 @@ pub record BookNumbers (b : Book) : Type 0 where
   pub running : {s : List ℕ} {at : ℕ} {r : Ran} → Runs b s at r → Answers (1 ∷ 2 ∷ []) (walk_of s at).answer r.answer
   pub quoting : (index : ℕ) → OneOf (0 ∷ 5 ∷ 8 ∷ []) (quote_in b index).answer
   pub summing : (index : ℕ) → OneOf (0 ∷ 5 ∷ []) (volume_of index (view b)).answer
-  pub telling : {r : Listing} (index : ℕ) → r ≡ told_in index (view b) → OneOf (0 ∷ 5 ∷ []) r.answer
+  pub telling : {r : answers.Option Listing} (index : ℕ) → r ≡ told_in index (view b) → OneOf (0 ∷ 5 ∷ []) (told_number r)
 
 -- the rooms: registering, what is told, whether a number is in its turn, and whether a change fits
 pub record RoomNumbers : Type 0 where
-  pub registering : {b : Symbols} {r : Entered} (index : ℕ) (name : List ℕ) (scale : ℕ) → Registers b index name scale r → OneOf (0 ∷ 11 ∷ 12 ∷ 13 ∷ []) r.answer
-  pub telling : (e : Option Entry) → OneOf (0 ∷ 5 ∷ []) (told_of e).answer
+  pub registering : {b : Symbols} {r : Result Symbols RegisterError} (index : ℕ) (name : List ℕ) (scale : ℕ) → Registers b index name scale r → OneOf (0 ∷ 11 ∷ 12 ∷ 13 ∷ []) (answered register_number r)
+  pub telling : (e : Option Entry) → OneOf (0 ∷ 5 ∷ []) (told_number (told_of e))
   pub turning : (e : Option Entry) (number : ℕ) → OneOf (0 ∷ 5 ∷ 6 ∷ 7 ∷ 8 ∷ []) (turn_at e number)
-  pub fitting : (f : Fit) → OneOf (0 ∷ 9 ∷ 10 ∷ []) (fit_number f)
+  pub fitting : (r : Result (Unit {0}) Unfit) → OneOf (0 ∷ 9 ∷ 10 ∷ []) (fit_number r)
 
 -- `page`: a line, a laying, and the end
 pub record PageNumbers (b : Book) : Type 0 where
@@ -143,10 +143,10 @@ pub record Refusals (b : Book) : Type 0 where
   -- so that none changes an order
   pub no_order_changes : {s : List ℕ} {at : ℕ} {r : Moved} → Moves b s at r → r.answer ≢ 0 → (index : ℕ) → live_in index (view r.book) ≡ live_in index (view b)
 
--- in the rooms: what is refused hands back the symbols or the orders that came in, and where the mark goes the record
+-- in the rooms: what is refused leaves the symbols or the orders as they came in, and where the mark goes the record
 pub record Rooms : Type 0 where
-  pub registering : {b : Symbols} {r : Entered} (index : ℕ) (name : List ℕ) (scale : ℕ) → Registers b index name scale r → r.answer ≢ 0 → r.symbols ≡ b
-  pub changing : {b : Orders} {c : Change} {r : Changed} (k : ℕ) → Changes b k c r → fit_number r.fit ≢ 0 → r.orders ≡ b
+  pub registering : {b : Symbols} {r : Result Symbols RegisterError} (index : ℕ) (name : List ℕ) (scale : ℕ) → Registers b index name scale r → answered register_number r ≢ 0 → after b r ≡ b
+  pub changing : {b a : Orders} {c : Change} {r : Result (Unit {0}) Unfit} (k : ℕ) → Changes b k c a r → fit_number r ≢ 0 → a ≡ b
   pub dealing : {b : Record} {d : Deal} {r : Dealt} (k : ℕ) → Deals b k d r → r.lost ≡ true → r.trades ≡ b
 
 -- the same of a registering and of a run
@@ -158,10 +158,6 @@ pub record States (b : Book) : Type 0 where
   -- and where none is passed, the one that came in
   pub unmoved : {s : List ℕ} {from : ℕ} {r : Ran} → Runs b s from r → r.at ≡ from → r.book ≡ b
 
--- nothing was told: no name, and zeros
-abbrev pub no_listing : Listing
-no_listing = record { answer = 5; name = replicate name_bytes 0; len = 0; scale = 0 }
-
 -- the questions, which hand back no state
 pub record Questions (b : Book) : Type 0 where
   -- a refused quote shows none on both sides
@@ -169,7 +165,7 @@ pub record Questions (b : Book) : Type 0 where
   -- a refused volume is 0 and not whole
   pub summing : (index : ℕ) → (volume_of index (view b)).answer ≢ 0 → volume_of index (view b) ≡ record { answer = 5; shares = 0; whole = false }
   -- of a symbol that is not registered nothing is told
-  pub telling : {r : Listing} (index : ℕ) → r ≡ told_in index (view b) → r.answer ≢ 0 → r ≡ no_listing
+  pub telling : {r : answers.Option Listing} (index : ℕ) → r ≡ told_in index (view b) → told_number r ≢ 0 → r ≡ None
 
 -- ---- how far an answer moves: the bytes from the position on decide
 -- fewer than four bytes remain, or Msg Size exceeds what remains

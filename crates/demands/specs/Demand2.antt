@@ -1,5 +1,5 @@
 -- Demand 2 of document 00, gathered: what is quoted of a state, and what a message does to it.
-use Rattle.std.specs.Prelude.{ℕ, ◌+◌, ◌<◌, ◌≤◌, Bool, true, false, ◌≢◌, ◌≡◌, eqb, length, drop}
+use Rattle.std.specs.Prelude.{None, ℕ, ◌+◌, ◌<◌, ◌≤◌, Bool, true, false, ◌≢◌, ◌≡◌, eqb, length, drop}
 use mathlib.Core.List.{List, [], ◌∷◌, Memᴰ}
 use Rattle.std.proofs.Math.Option.{none, some}
 use Rattle.wire.specs.Outcome.{done, refused}
@@ -20,13 +20,12 @@ use Rattle.record.specs.declared.Cross.{Cross}
 use Rattle.book.specs.State.{Symbol, view, symbol_in, live_in, crosses_in}
 use Rattle.book.specs.Promises.{left_out, Obeys, Steps}
 use Rattle.book.specs.Registering.{register_of}
-use Rattle.orders.specs.Levels.{counts, shares_at, NoBetter, Attained, TakesOff}
+use Rattle.orders.specs.Levels.{counts, shares_at, level_at, NoBetter, Attained, TakesOff}
 use Rattle.book.specs.Quote.{volume_of, Replaces, side_of}
 use Rattle.book.specs.Step.{buys, meant}
 use Rattle.book.specs.Walk.{move_of, walk_of, run_of, Moves, Runs}
 use Rattle.book.specs.declared.Book.{Book}
 use Rattle.book.specs.declared.Done.{Done}
-use Rattle.orders.specs.declared.levels.Level.{Level}
 use Rattle.book.specs.declared.walk.Moved.{Moved}
 use Rattle.book.specs.declared.walk.Ran.{Ran}
 use Rattle.demands.specs.Demand3.{StandsAt, quote_in}
@@ -38,13 +37,13 @@ NotFor market index m = (x : Message) → (read_of market m).outcome ≡ done x 
 -- ---- of a state: what it quotes and holds of a symbol
 pub record OfSymbol (b : Book) (index : ℕ) (s : Symbol) : Type 0 where
   -- the size quoted is the exact sum over the live orders at the price,
-  pub exact_sum : (buy : Bool) (price size : ℕ) → side_of buy (quote_in b index) ≡ Level.Best price size → size ≡ sum_by (shares_at buy price) s.orders
+  pub exact_sum : (buy : Bool) (price size : ℕ) → side_of buy (quote_in b index) ≡ level_at price size → size ≡ sum_by (shares_at buy price) s.orders
   -- a live order of its side stands at the price,
-  pub attained : (buy : Bool) (price size : ℕ) → side_of buy (quote_in b index) ≡ Level.Best price size → Attained buy price s.orders
+  pub attained : (buy : Bool) (price size : ℕ) → side_of buy (quote_in b index) ≡ level_at price size → Attained buy price s.orders
   -- no live order of its side is better,
-  pub best_price : (buy : Bool) (price size : ℕ) → side_of buy (quote_in b index) ≡ Level.Best price size → (o : _) → Memᴰ o s.orders → counts buy o ≡ true → NoBetter buy price o.price
+  pub best_price : (buy : Bool) (price size : ℕ) → side_of buy (quote_in b index) ≡ level_at price size → (o : _) → Memᴰ o s.orders → counts buy o ≡ true → NoBetter buy price o.price
   -- and where a quote shows none on a side, none is live there
-  pub none_live : (buy : Bool) → (quote_in b index).answer ≡ 0 → side_of buy (quote_in b index) ≡ Level.Empty → (o : _) → Memᴰ o s.orders → counts buy o ≡ true → ⊥
+  pub none_live : (buy : Bool) → (quote_in b index).answer ≡ 0 → side_of buy (quote_in b index) ≡ None → (o : _) → Memᴰ o s.orders → counts buy o ≡ true → ⊥
   -- no more live orders than a symbol's places, and at most one of a number; of the kept trades and of the kept crosses likewise
   pub orders_within : length s.orders ≤ orders_each
   pub one_live : (number : ℕ) → count (λ o. eqb (order_number o) number) s.orders ≤ 1
@@ -65,7 +64,7 @@ pub record OfMessage (b : Book) (s : List ℕ) (at : ℕ) (r : Moved) : Type 0 w
   pub effects : Obeys (move_of (view b) s at) r.book r.answer
   -- case D's rule: an add that is done at the best price raises the quoted size by its volume
   pub case_d : {m : List ℕ} (head : Head) (order price volume side size : ℕ) → StandsAt s at m → (read_of (view b).market m).outcome ≡ done (Message.Add head order price volume side) → r.answer ≡ 0
-      → side_of (buys side) (quote_in b head.index) ≡ Level.Best price size → side_of (buys side) (quote_in r.book head.index) ≡ Level.Best price (size + volume)
+      → side_of (buys side) (quote_in b head.index) ≡ level_at price size → side_of (buys side) (quote_in r.book head.index) ≡ level_at price (size + volume)
   -- an execution that is done takes its volume off at the price and side of its order, which was live, whatever the price of the trade; the sum at every other stays
   pub execution : {m : List ℕ} (head : Head) (order trade price volume printable : ℕ) → StandsAt s at m → (read_of (view b).market m).outcome ≡ done (Message.Execute head order trade price volume printable) → r.answer ≡ 0
       → TakesOff order volume (live_in head.index (view b)) (live_in head.index (view r.book))

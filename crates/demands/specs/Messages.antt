@@ -1,7 +1,8 @@
 -- Messages of symbol ABC as bytes, laid out as document 01's table says: index 7, 125 nanoseconds, firm FIRM1; and what is quoted of it.
-use Rattle.std.specs.Prelude.{ℕ, List, [], ◌∷◌, ◌++◌}
+use Rattle.std.specs.Prelude.{ℕ, List, [], ◌∷◌, ◌++◌, Option, None}
 use Rattle.wire.specs.Bytes.{little_endian}
 use Rattle.wire.specs.Fields.{buy_letter, sell_letter}
+use Rattle.orders.specs.Levels.{level_at}
 use Rattle.orders.specs.declared.levels.Level.{Level}
 use Rattle.book.specs.declared.quote.Quote.{Quote}
 
@@ -60,12 +61,12 @@ abbrev pub clear : (next : ℕ) → List ℕ
 clear next = field_bytes ((2, 20) ∷ (2, 32) ∷ (4, 34200) ∷ (4, 125) ∷ (4, index) ∷ (4, next) ∷ [])
 
 -- ---- what is quoted of it: for each side none, or so many shares at a price
-abbrev pub no_level : Level
-no_level = Level.Empty
+abbrev pub no_level : Option Level
+no_level = None
 
 infix 20 ◌at◌
-abbrev pub ◌at◌ : ℕ → ℕ → Level
-size at price = Level.Best price size
+abbrev pub ◌at◌ : ℕ → ℕ → Option Level
+size at price = level_at price size
 
-abbrev pub shows : Level → Level → Quote
+abbrev pub shows : Option Level → Option Level → Quote
 shows bid ask = record { answer = 0; bid = bid; ask = ask }

@@ -1,4 +1,5 @@
 -- The reader that is built, as `feed` knows readers: its states are views, its step is the rule that the contracts cite, and its rules are document 01's.
+use Rattle.std.specs.Prelude as sides
 use Rattle.std.specs.Prelude.{true, false, [], ℕ}
 use Rattle.std.proofs.Math.Option.{Option, none, some, IsSome}
 use Rattle.feed.specs.Reader.{Kept, Rules}
@@ -13,8 +14,8 @@ use Rattle.book.specs.declared.quote.Quote.{Quote}
 
 -- what a quote shows: for each side none, or the best price with the exact sum at it
 pub record Sides : Type 0 where
-  pub bid : Level
-  pub ask : Level
+  pub bid : sides.Option Level
+  pub ask : sides.Option Level
 
 -- document 01's rules of the book: a symbol's live orders, what a numbered message does to them, and what a quote shows of them
 abbrev pub pillar : Rules

@@ -6,9 +6,9 @@ ghost use Rattle.book.specs.Registering.{register_of};
 ghost use Rattle.host.specs.Made.{MadeFor};
 
 use book::{Book, Done};
-use markets::{Market, Named};
+use markets::{Market, market_of};
 
-// A new book, and whether the number that was given names a market.
+// A new book, and whether the number that was given names a market: a mark, since the C interface takes no enum.
 #[repr(C)]
 #[derive(Clone, Copy)]
 pub struct Made {
@@ -20,16 +20,9 @@ pub struct Made {
 pub fn painterend_new(market: u16) -> Made
     ensures { MadeFor market result }
 {
-    let n = markets::market_named(market);
-    match n {
-        Named::Market(m) => {
-            let book = Book::new(m);
-            Made { book, known: true }
-        }
-        Named::Unknown => {
-            let book = Book::new(Market::Nyse);
-            Made { book, known: false }
-        }
+    Made {
+        book: Book::new(market_of(market)),
+        known: Market::try_from(market).is_ok(),
     }
 }
 

@@ -1,4 +1,4 @@
-// The calls of host under their names in C. Each makes the call of that name, and promises what it does.
+// The calls of host under their names in C. Each makes the call of that name, and promises what it does. They stay beside host's: C needs the names in an archive, and `demands` speaks of host.
 #![tactic(auto)]
 
 ghost use Rattle.std.specs.Prelude.{◌≡◌};

@@ -1,8 +1,8 @@
 -- The markets and their numbers.
 use Rattle.std.specs.Prelude.{ℕ, Bool, true, false, cond, List, [], ◌∷◌, eqb}
+use Rattle.std.specs.Prelude.{Option, None, Some}
 use Rattle.markets.specs.declared.Market.{Market}
 use Rattle.markets.specs.declared.Market.TheVariants.{Nyse, Arca, American, National, Texas}
-use Rattle.markets.specs.declared.Named.{Named}
 
 -- source 002's Market ID
 abbrev pub market_number : Market → ℕ
@@ -16,22 +16,22 @@ abbrev pub every_market : List Market
 every_market = Nyse ∷ Arca ∷ American ∷ National ∷ Texas ∷ []
 
 -- the market of a number, among these
-abbrev pub named_among : List Market → ℕ → Named
-named_among [] n = Named.Unknown
-named_among (market ∷ markets) n = cond (eqb n (market_number market)) (Named.Market market) (named_among markets n)
+abbrev pub named_among : List Market → ℕ → Option Market
+named_among [] n = None
+named_among (market ∷ markets) n = cond (eqb n (market_number market)) (Some market) (named_among markets n)
 
-unfoldable pub named_of : ℕ → Named
+unfoldable pub named_of : ℕ → Option Market
 named_of n = named_among every_market n
 
 -- whether a number names one
-abbrev pub is_named : Named → Bool
-is_named (Named.Market m) = true
-is_named Named.Unknown = false
+abbrev pub is_named : Option Market → Bool
+is_named (Some m) = true
+is_named None = false
 
 -- the market that is kept as a number. A number that names none would stand for NYSE
-abbrev pub market_in : Named → Market
-market_in (Named.Market m) = m
-market_in Named.Unknown = Nyse
+abbrev pub market_in : Option Market → Market
+market_in (Some m) = m
+market_in None = Nyse
 
 unfoldable pub market_of : ℕ → Market
 market_of n = market_in (named_of n)

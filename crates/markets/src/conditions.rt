@@ -5,6 +5,7 @@ ghost use Rattle.markets.specs.Conditions.{on_texas, on_arca_american_nyse, list
 use crate::Market;
 
 // Does the market list this code as a condition? The first of the four positions is 0; beyond the last one nothing is listed.
+#[tactic(auto, using(crate::proofs::Listed::none_beyond), unfolding(crate::specs::Conditions::listed))]
 pub fn condition_listed(market: Market, position: usize, code: u8) -> bool
     ensures { result ≡ listed market position code }
 {
@@ -31,11 +32,8 @@ fn exemption_listed(market: Market, code: u8) -> bool
     ensures { result ≡ member code (codes_of market exemption) }
 {
     match code {
-        b' ' => true,
-        b'F' => true,
-        b'O' => on_arca_american_nyse(market),
-        b'5' => on_arca_american_nyse(market),
-        b'6' => on_arca_american_nyse(market),
+        b' ' | b'F' => true,
+        b'O' | b'5' | b'6' => on_arca_american_nyse(market),
         b'7' => on_texas(market),
         _ => false,
     }
@@ -44,21 +42,14 @@ fn exemption_listed(market: Market, code: u8) -> bool
 fn hours_listed(market: Market, code: u8) -> bool
     ensures { result ≡ member code (codes_of market hours) }
 {
-    match code {
-        b' ' => true,
-        b'T' => true,
-        b'U' => true,
-        b'Z' => true,
-        _ => false,
-    }
+    matches!(code, b' ' | b'T' | b'U' | b'Z')
 }
 
 fn detail_listed(market: Market, code: u8) -> bool
     ensures { result ≡ member code (codes_of market detail) }
 {
     match code {
-        b' ' => true,
-        b'I' => true,
+        b' ' | b'I' => true,
         b'V' => on_texas(market),
         _ => false,
     }
@@ -67,23 +58,11 @@ fn detail_listed(market: Market, code: u8) -> bool
 fn on_texas(market: Market) -> bool
     ensures { result ≡ on_texas market }
 {
-    match market {
-        Market::Nyse => false,
-        Market::Arca => false,
-        Market::American => false,
-        Market::National => false,
-        Market::Texas => true,
-    }
+    market == Market::Texas
 }
 
 fn on_arca_american_nyse(market: Market) -> bool
     ensures { result ≡ on_arca_american_nyse market }
 {
-    match market {
-        Market::Nyse => true,
-        Market::Arca => true,
-        Market::American => true,
-        Market::National => false,
-        Market::Texas => false,
-    }
+    matches!(market, Market::Nyse | Market::Arca | Market::American)
 }

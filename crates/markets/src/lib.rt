@@ -4,11 +4,12 @@
 mod conditions;
 
 ghost use Rattle.std.specs.Prelude.{◌≡◌};
+ghost use Rattle.std.specs.Option.{ok_or};
 ghost use Rattle.markets.specs.Numbers.{market_number, named_of, market_of};
 
 pub use conditions::condition_listed;
 
-#[derive(Clone, Copy)]
+#[derive(Clone, Copy, PartialEq, Eq)]
 pub enum Market {
     Nyse,
     Arca,
@@ -17,47 +18,48 @@ pub enum Market {
     Texas,
 }
 
-// What a number names.
+// A number that names no market.
 #[derive(Clone, Copy)]
-pub enum Named {
-    Market(Market),
-    Unknown,
-}
+pub struct UnknownMarket(pub u16);
 
 // The market of source 002's Market ID.
-pub fn market_named(number: u16) -> Named
-    ensures { result ≡ named_of number }
-{
-    match number {
-        1 => Named::Market(Market::Nyse),
-        3 => Named::Market(Market::Arca),
-        9 => Named::Market(Market::American),
-        10 => Named::Market(Market::National),
-        11 => Named::Market(Market::Texas),
-        _ => Named::Unknown,
-    }
-}
+impl TryFrom<u16> for Market {
+    type Error = UnknownMarket;
 
-// The market that is kept as a number: that of its Market ID, and NYSE with any other number.
-pub fn market_of(number: u16) -> Market
-    ensures { result ≡ market_of number }
-{
-    let named = market_named(number);
-    match named {
-        Named::Market(market) => market,
-        Named::Unknown => Market::Nyse,
+    ghost try_from_gives = { λ number result. result ≡ ok_or (named_of number) (record { 0 = number }) };
+
+    #[tactic(auto, using(crate::proofs::Names::unnamed), unfolding(crate::specs::Numbers::named_of))]
+    fn try_from(number: u16) -> Result<Market, UnknownMarket> {
+        match number {
+            1 => Ok(Market::Nyse),
+            3 => Ok(Market::Arca),
+            9 => Ok(Market::American),
+            10 => Ok(Market::National),
+            11 => Ok(Market::Texas),
+            _ => Err(UnknownMarket(number)),
+        }
     }
 }
 
 // The Market ID, by which a market is kept.
-pub fn number_of(market: Market) -> u16
-    ensures { result ≡ market_number market }
-{
-    match market {
-        Market::Nyse => 1,
-        Market::Arca => 3,
-        Market::American => 9,
-        Market::National => 10,
-        Market::Texas => 11,
+impl From<Market> for u16 {
+    ghost from_gives = { λ market number. number ≡ market_number market };
+
+    fn from(market: Market) -> u16 {
+        match market {
+            Market::Nyse => 1,
+            Market::Arca => 3,
+            Market::American => 9,
+            Market::National => 10,
+            Market::Texas => 11,
+        }
     }
+}
+
+// The market that is kept as a number: that of its Market ID, and NYSE with any other number.
+#[tactic(auto, using(crate::proofs::Names::market_or_nyse), unfolding(crate::specs::Numbers::market_of))]
+pub fn market_of(number: u16) -> Market
+    ensures { result ≡ market_of number }
+{
+    Market::try_from(number).unwrap_or(Market::Nyse)
 }

@@ -5,6 +5,7 @@ pub mod Storing
 pub mod Quoting
 pub mod Deepening
 pub mod SideRows
+pub mod Passing
 pub mod Ranking
 pub mod TwelvePrices
 pub mod Sides

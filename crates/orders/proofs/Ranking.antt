@@ -10,13 +10,14 @@ use native.Mathlib.Omega.{arith}
 use borrow.Author.Tests.{eqb-true, eqb-false, eq-eqb, ltb-true, lt-ltb}
 use lib.Dec.{eqb}
 use lib.ListN.{replicate}
+use Rattle.std.specs.Prelude.{Option, Some, None}
 use Rattle.places.specs.Places.{fold, sum_by, count}
 use Rattle.places.proofs.Shelves.{get_or_replicated}
-use Rattle.orders.specs.Levels.{counts, best_step, best_of, shares_at, level_if, level_of, NoBetter, Attained}
+use Rattle.orders.specs.Levels.{counts, best_step, best_of, level_by, level_of, NoBetter, Attained}
 use Rattle.orders.specs.Rows.{levels, no_row, ahead, beyond, next_step, next_of, stands_at, row_of, row_if, row_after, rows_from, side_rows, row_at, as_level, Better, Ranks, has_a_row, past_the_last, OfRows}
 use Rattle.orders.specs.declared.Order.{Order}
 use Rattle.orders.specs.declared.rows.LevelRow.{LevelRow}
-use Rattle.orders.proofs.Sides.{step_attained}
+use Rattle.orders.proofs.Sides.{NoWorse, step_attained}
 use Rattle.orders.proofs.Deepening.{next_of_all, next_beyond}
 use Rattle.orders.proofs.SideRows.{ten_rows, rows_used, rows_unused}
 
@@ -43,15 +44,14 @@ further buy before row p u h g = go before.used h
 
 -- ---- a live order of the side stands at the best price beyond a row
 module _ (buy : Bool) (before : LevelRow) where
-  next_attained : (os : List Order) → (next_of buy before os).some ≡ true → Attained buy (next_of buy before os).price os
+  next_attained : (os : List Order) (p : ℕ) → next_of buy before os ≡ Some p → Attained buy p os
   unfolding fold next_step
-  next_attained [] e = absurd (false≢true e)
-  next_attained (x ∷ os) e = go (next_attained os) (beyond buy before x.price) e
+  next_attained [] p e = cc
+  next_attained (x ∷ os) p e = go (next_attained os) (beyond buy before x.price) e
     where
-      go : ((next_of buy before os).some ≡ true → Attained buy (next_of buy before os).price os) → (d : Bool) → (cond d (best_step buy x (next_of buy before os)) (next_of buy before os)).some ≡ true
-          → Attained buy (cond d (best_step buy x (next_of buy before os)) (next_of buy before os)).price (x ∷ os)
-      go ih true k = step_attained buy x os (next_of buy before os) ih k
-      go ih false k = let a = ih k in record { order = a.order; live = Memᴰ.tail a.live; side = a.side; at = a.at }
+      go : ((q : ℕ) → next_of buy before os ≡ Some q → Attained buy q os) → (d : Bool) → cond d (best_step buy x (next_of buy before os)) (next_of buy before os) ≡ Some p → Attained buy p (x ∷ os)
+      go ih true k = step_attained buy x os (next_of buy before os) ih p k
+      go ih false k = let a = ih p k in record { order = a.order; live = Memᴰ.tail a.live; side = a.side; at = a.at }
 
 -- an order that stands there is counted
 is_counted : (buy : Bool) (p : ℕ) (o : Order) → stands_at buy p o ≡ true → (os : List Order) → Memᴰ o os → 1 ≤ count (stands_at buy p) os
@@ -76,11 +76,11 @@ module _ (buy : Bool) (os : List Order) where
 
   found : (before : LevelRow) → (row_after buy before os).used ≡ true → Found before (row_after buy before os)
   unfolding row_after
-  found before = go (next_of buy before os).some refl
+  found before = go (next_of buy before os) refl
     where
-      go : (s : Bool) → (next_of buy before os).some ≡ s → (row_if s (row_of buy (next_of buy before os).price os)).used ≡ true → Found before (row_if s (row_of buy (next_of buy before os).price os))
-      go true e u = record { is_row = refl; comes_after = next_beyond buy before os e; stands = attained_counts buy _ os (next_attained buy before os e) }
-      go false e u = absurd (false≢true u)
+      go : (p : Option ℕ) → next_of buy before os ≡ p → (row_if buy os p).used ≡ true → Found before (row_if buy os p)
+      go (Some p) e u = record { is_row = refl; comes_after = next_beyond buy before os p e; stands = attained_counts buy p os (next_attained buy before os p e) }
+      go None e u = absurd (false≢true u)
 
   abbrev next : LevelRow → LevelRow
   next before = row_after buy before os
@@ -152,7 +152,11 @@ module _ (buy : Bool) (os : List Order) where
 
   next_for : (before : LevelRow) (o : Order) → Memᴰ o os → counts buy o ≡ true → beyond buy before o.price ≡ true → NextFor before o.price
   unfolding row_after
-  next_for before o m c t = let h = next_of_all buy before os o m c t in record { used = rw h.0; no_better = rw h.0 h.1 }
+  next_for before o m c t = go (next_of buy before os) refl (next_of_all buy before os o m c t)
+    where
+      go : (p : Option ℕ) → next_of buy before os ≡ p → NoWorse buy o.price p → NextFor before o.price
+      go None e h = absurd h
+      go (Some p) e h = record { used = rw e refl; no_better = rw e h }
 
   ranks_behind : (n p : ℕ) (row : LevelRow) (rows : List LevelRow) → row.used ≡ true → Better buy row.price p → Ranks n buy p rows → Ranks (suc n) buy p (row ∷ rows)
   ranks_behind n p row rows e b (has_a_row i h u q) = has_a_row (suc i) (omega (arith, h)) u q
@@ -189,8 +193,8 @@ module _ (buy : Bool) (os : List Order) where
   -- ---- the first row is the level of the quote
   pub first_row_is_the_level : as_level (row_at (side_rows buy os) 0) ≡ level_of buy os
   unfolding side_rows rows_from row_after level_of next_step
-  first_row_is_the_level = go (best_of buy os).some
+  first_row_is_the_level = go (best_of buy os)
     where
-      go : (s : Bool) → as_level (row_if s (row_of buy (best_of buy os).price os)) ≡ level_if s (best_of buy os).price (sum_by (shares_at buy (best_of buy os).price) os)
-      go true = refl
-      go false = refl
+      go : (b : Option ℕ) → as_level (row_if buy os b) ≡ level_by buy os b
+      go None = refl
+      go (Some p) = refl

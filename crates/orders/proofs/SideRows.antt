@@ -1,61 +1,31 @@
--- The rows of a side: each case of an order met, ten rows filled one by one, and that neither a price, a sum nor a count depends on where an order lies.
+-- The rows of a side: ten rows filled one by one, and that neither a price, a sum nor a count depends on where an order lies.
 use mathlib.Core.Bool.{Bool, true, false, cond, true≢false}
 use mathlib.Core.List.{List, [], ◌∷◌, ◌++◌, append-nil}
 use mathlib.Core.Path.{◌≡◌, refl, sym, ap, ◌∙◌}
 use Prim.Native.Nat.{ℕ, zero, suc, ◌+◌, ◌-◌, ◌<◌}
 use native.Mathlib.Nat.{zero-add, add-zero}
 use native.Mathlib.Omega.{arith}
-use borrow.Author.Tests.{eq-eqb, ne_eqb}
 use lib.ListN.{length, get_or, set, take, drop, replicate, length-replicate, take-append-drop}
 use lib.Seq.{paste, paste-zero, get_or-drop, drop-drop, take_all}
+use Rattle.std.specs.Prelude.{Option, Some, None}
 use Rattle.places.specs.Places.{fold, count, one, in_order}
 use Rattle.places.proofs.Shelves.{paste_next, drop_replicated}
 use Rattle.places.proofs.Sums.{fold_in_order, sum_fold}
 use Rattle.orders.specs.State.{order_number, order_live}
-use Rattle.orders.specs.Levels.{counts, best_step, no_best}
-use Rattle.orders.specs.Rows.{levels, no_row, ahead, beyond, next_step, next_of, stands_at, row_of, row_if, row_after, rows_from, side_rows}
-use Rattle.orders.specs.Passing.{alone, met_by, row_step}
+use Rattle.orders.specs.Levels.{best_step, no_best}
+use Rattle.orders.specs.Rows.{levels, no_row, beyond, next_step, next_of, stands_at, row_of, row_if, row_after, rows_from, side_rows}
 use Rattle.orders.proofs.Quoting.{best_comm, shares_view}
 use Rattle.orders.specs.declared.Order.{Order}
-use Rattle.orders.specs.declared.levels.Best.{Best}
 use Rattle.orders.specs.declared.rows.LevelRow.{LevelRow}
-
--- ---- an order met
-module _ (buy : Bool) (p v : ℕ) (row : LevelRow) where
-  pub met_first : row.used ≡ false → alone p v ≡ met_by buy p v row
-  met_first s = rw s
-
-  module _ (s : row.used ≡ true) where
-    pub met_same : (e : p ≡ row.price) → ◌≡◌ {A = LevelRow} (record { used = true; price = p; size = row.size + v; orders = row.orders + 1 }) (met_by buy p v row)
-    met_same e = rw (s, eq-eqb p row.price e) (ap {B = LevelRow} (λ (q : ℕ). record { used = true; price = q; size = row.size + v; orders = row.orders + 1 }) e)
-
-    pub met_ahead : (p ≡ row.price → ⊥) → ahead buy p row.price ≡ true → alone p v ≡ met_by buy p v row
-    met_ahead ne t = rw (s, ne_eqb p row.price ne, t)
-
-    pub met_worse : (p ≡ row.price → ⊥) → ahead buy p row.price ≡ false → row ≡ met_by buy p v row
-    met_worse ne t = rw (s, ne_eqb p row.price ne, t)
-
-module _ (buy : Bool) (before : LevelRow) (o : Order) (row : LevelRow) where
-  pub step_elsewhere : counts buy o ≡ false → row ≡ row_step buy before o row
-  unfolding row_step
-  step_elsewhere n = rw n
-
-  pub step_not_beyond : counts buy o ≡ true → beyond buy before o.price ≡ false → row ≡ row_step buy before o row
-  unfolding row_step
-  step_not_beyond n t = rw (n, t)
-
-  pub step_met : counts buy o ≡ true → beyond buy before o.price ≡ true → met_by buy o.price o.volume row ≡ row_step buy before o row
-  unfolding row_step
-  step_met n t = rw (n, t)
 
 -- ---- a row that is not used is the empty one
 unused_is_empty : (buy : Bool) (before : LevelRow) (os : List Order) → (row_after buy before os).used ≡ false → row_after buy before os ≡ no_row
 unfolding row_after
-unused_is_empty buy before os = go (next_of buy before os).some
+unused_is_empty buy before os = go (next_of buy before os)
   where
-    go : (s : Bool) → (row_if s (row_of buy (next_of buy before os).price os)).used ≡ false → row_if s (row_of buy (next_of buy before os).price os) ≡ no_row
-    go true e = absurd (true≢false e)
-    go false e = refl
+    go : (p : Option ℕ) → (row_if buy os p).used ≡ false → row_if buy os p ≡ no_row
+    go (Some p) e = absurd (true≢false e)
+    go None e = refl
 
 -- ---- so many rows
 rows_length : (n : ℕ) (buy : Bool) (before : LevelRow) (os : List Order) → length (rows_from n buy before os) ≡ n
@@ -116,7 +86,7 @@ module _ (buy : Bool) (os : List Order) where
   filled_all before rows f = f.shown ∙ append-nil (take levels (side_rows buy os)) ∙ take_all levels (side_rows buy os) (omega (arith, ten_rows buy os))
 
 -- ---- over the places and over the live orders
-next_comm : (buy : Bool) (before : LevelRow) (a b : Order) (y : Best) → next_step buy before a (next_step buy before b y) ≡ next_step buy before b (next_step buy before a y)
+pub next_comm : (buy : Bool) (before : LevelRow) (a b : Order) (y : Option ℕ) → next_step buy before a (next_step buy before b y) ≡ next_step buy before b (next_step buy before a y)
 unfolding next_step
 next_comm buy before a b y = go (beyond buy before a.price) (beyond buy before b.price)
   where
@@ -130,7 +100,7 @@ next_view : (buy : Bool) (before : LevelRow) (l : List Order) → next_of buy be
 unfolding next_step best_step
 next_view buy before l = fold_in_order (next_step buy before) no_best order_number (next_comm buy before) order_live (λ a y e. rw e (go (beyond buy before a.price) y)) l
   where
-    go : (s : Bool) (y : Best) → cond s y y ≡ y
+    go : (s : Bool) (y : Option ℕ) → cond s y y ≡ y
     go true y = refl
     go false y = refl
 
@@ -146,9 +116,11 @@ row_view buy p l = λ i. record { used = true; price = p; size = shares_view buy
 
 after_view : (buy : Bool) (before : LevelRow) (l : List Order) → row_after buy before (in_order order_number order_live l) ≡ row_after buy before l
 unfolding row_after
-after_view buy before l =
-    ap (λ (n : Best). row_if n.some (row_of buy n.price (in_order order_number order_live l))) (next_view buy before l)
-    ∙ ap (row_if (next_of buy before l).some) (row_view buy (next_of buy before l).price l)
+after_view buy before l = ap (row_if buy (in_order order_number order_live l)) (next_view buy before l) ∙ go (next_of buy before l)
+  where
+    go : (p : Option ℕ) → row_if buy (in_order order_number order_live l) p ≡ row_if buy l p
+    go None = refl
+    go (Some p) = row_view buy p l
 
 rows_view : (n : ℕ) (buy : Bool) (before : LevelRow) (l : List Order) → rows_from n buy before (in_order order_number order_live l) ≡ rows_from n buy before l
 unfolding rows_from

@@ -1,120 +1,121 @@
 -- The quoted size is the sum over the live orders at the quoted price, and the best price is a fold of maxima, or minima, over them.
-use mathlib.Core.Bool.{Bool, true, false, cond, beq, true≢false, false≢true}
+use mathlib.Core.Bool.{Bool, true, false, cond, beq}
 use mathlib.Core.List.Memᴰ
 use mathlib.Core.List.{List, [], ◌∷◌, Memᴰ}
 use mathlib.Core.Logic.{◌⊎◌, inl, inr}
-use mathlib.Core.Path.{◌≡◌, refl, sym, ap, ◌∙◌}
+use mathlib.Core.Path.{◌≡◌, refl, sym, ap, ◌∙◌, subst}
 use Prim.Native.Nat.{ℕ, ◌+◌, max, min}
 use native.Mathlib.Omega.{arith}
 use lib.Dec.{ltb}
 use borrow.Author.Tests.{eq-eqb, ltb-true, ltb-false}
+use Rattle.std.specs.Prelude.{Option, Some, None}
+use Rattle.std.proofs.lemmas.Option.{same_Some}
 use Rattle.places.specs.Places.{fold, sum_by, insert}
 use Rattle.places.proofs.Sorted.{sum_insert}
 use Rattle.places.proofs.Sums.{fold_insert}
 use Rattle.orders.specs.State.{order_number}
 use Rattle.orders.specs.Rules.{order_of}
-use Rattle.orders.specs.Levels.{counts, better, best_step, no_best, best_of, shares_at, level_if, level_of, NoBetter, Attained}
+use Rattle.orders.specs.Levels.{counts, better, best_step, no_best, best_of, shares_at, level_at, level_by, level_of, NoBetter, Attained}
 use Rattle.orders.specs.declared.Order.{Order}
-use Rattle.orders.specs.declared.levels.Best.{Best}
 use Rattle.orders.specs.declared.levels.Level.{Level}
 use Rattle.orders.proofs.Quoting.{best_comm}
 
 -- ---- a level that shows a price
 pub record Shows (buy : Bool) (os : List Order) (p n : ℕ) : Type 0 where
-  pub some : (best_of buy os).some ≡ true
-  pub price : (best_of buy os).price ≡ p
+  pub best : best_of buy os ≡ Some p
   pub size : sum_by (shares_at buy p) os ≡ n
 
-level_shows : (b : Best) (n p m : ℕ) → level_if b.some b.price n ≡ Level.Best p m → (b.some ≡ true) × (b.price ≡ p) × (n ≡ m)
-level_shows b n p m = go b.some refl
-  where
-    go : (t : Bool) → b.some ≡ t → level_if t b.price n ≡ Level.Best p m → (b.some ≡ true) × (b.price ≡ p) × (n ≡ m)
-    go true q e = (q, cc, cc)
-    go false q e = absurd (let z : ◌≡◌ {A = ℕ} 0 1 = cc in omega arith)
-
-pub shows : (buy : Bool) (os : List Order) (p n : ℕ) → level_of buy os ≡ Level.Best p n → Shows buy os p n
+pub shows : (buy : Bool) (os : List Order) (p n : ℕ) → level_of buy os ≡ level_at p n → Shows buy os p n
 unfolding level_of
-shows buy os p n e =
-    let q = level_shows (best_of buy os) (sum_by (shares_at buy (best_of buy os).price) os) p n e in
-    record { some = q.0; price = q.1; size = (rw q.1 at q.2) }
+shows buy os p n e = go (best_of buy os) refl e
+  where
+    go : (b : Option ℕ) → best_of buy os ≡ b → level_by buy os b ≡ level_at p n → Shows buy os p n
+    go None q f = cc
+    go (Some m) q f =
+        let same : record { price = m; size = sum_by (shares_at buy m) os } ≡ record { price = p; size = n } = same_Some _ _ f in
+        let price : m ≡ p = ap (λ (l : Level). l.price) same in
+        record { best = q ∙ ap Some price; size = ap (λ (r : ℕ). sum_by (shares_at buy r) os) (sym price) ∙ ap (λ (l : Level). l.size) same }
 
 -- ---- no live order of the side is better
+-- there is a best price, and it is as good as this one
+abbrev pub NoWorse : Bool → ℕ → Option ℕ → Type 0
+NoWorse buy q None = ⊥
+NoWorse buy q (Some p) = NoBetter buy p q
+
 -- a price met is no better than the best of more
-pub kept_best : (buy : Bool) (q : ℕ) (o : Order) (b : Best) → b.some ≡ true → NoBetter buy b.price q → ((best_step buy o b).some ≡ true) × NoBetter buy (best_step buy o b).price q
+pub kept_best : (buy : Bool) (q : ℕ) (o : Order) (b : Option ℕ) → NoWorse buy q b → NoWorse buy q (best_step buy o b)
 unfolding best_step
-kept_best buy q o b s h = go buy (counts buy o) h
+kept_best buy q o None h = absurd h
+kept_best buy q o (Some p) h = go buy (counts buy o) h
   where
-    go : (side t : Bool) → NoBetter side b.price q → ((cond t (better side o.price b) b).some ≡ true) × NoBetter side (cond t (better side o.price b) b).price q
-    go true true g = (refl, rw s (omega arith))
-    go false true g = (refl, rw s (omega arith))
-    go true false g = (s, g)
-    go false false g = (s, g)
+    go : (side t : Bool) → NoBetter side p q → NoWorse side q (cond t (better side o.price (Some p)) (Some p))
+    go true true g = omega arith
+    go false true g = omega arith
+    go true false g = g
+    go false false g = g
 
-pub own_best : (buy : Bool) (o : Order) (b : Best) → counts buy o ≡ true → ((best_step buy o b).some ≡ true) × NoBetter buy (best_step buy o b).price o.price
+pub own_best : (buy : Bool) (o : Order) (b : Option ℕ) → counts buy o ≡ true → NoWorse buy o.price (best_step buy o b)
 unfolding best_step
-own_best buy o b c = rw c (refl, go buy b.some)
+own_best buy o b c = rw c (go buy b)
   where
-    go : (side t : Bool) → NoBetter side (cond t (cond side (max b.price o.price) (min b.price o.price)) o.price) o.price
-    go true true = omega arith
-    go true false = omega arith
-    go false true = omega arith
-    go false false = omega arith
+    go : (side : Bool) (b : Option ℕ) → NoWorse side o.price (better side o.price b)
+    go true None = omega arith
+    go true (Some p) = omega arith
+    go false None = omega arith
+    go false (Some p) = omega arith
 
-pub best_of_all : (buy : Bool) (os : List Order) (o : Order) → Memᴰ o os → counts buy o ≡ true → ((best_of buy os).some ≡ true) × NoBetter buy (best_of buy os).price o.price
+pub best_of_all : (buy : Bool) (os : List Order) (o : Order) → Memᴰ o os → counts buy o ≡ true → NoWorse buy o.price (best_of buy os)
 unfolding fold
 best_of_all buy [] o m c = absurd (Memᴰ.not-nil m)
 best_of_all buy (x ∷ os) o m c = go (best_of_all buy os o) (Memᴰ.cases_cons m)
   where
-    go : (Memᴰ o os → counts buy o ≡ true → ((best_of buy os).some ≡ true) × NoBetter buy (best_of buy os).price o.price) → (o ≡ x) ⊎ Memᴰ o os
-        → ((best_of buy (x ∷ os)).some ≡ true) × NoBetter buy (best_of buy (x ∷ os)).price o.price
+    go : (Memᴰ o os → counts buy o ≡ true → NoWorse buy o.price (best_of buy os)) → (o ≡ x) ⊎ Memᴰ o os → NoWorse buy o.price (best_of buy (x ∷ os))
     go ih (inl e) = rw e (own_best buy x (best_of buy os) (rw e at c))
-    go ih (inr k) = let h = ih k c in kept_best buy o.price x (best_of buy os) h.0 h.1
+    go ih (inr k) = kept_best buy o.price x (best_of buy os) (ih k c)
 
 -- ---- a live order of the side stands at the best price: it is the price at hand or the best so far
-module _ (buy : Bool) (x : Order) (os : List Order) (b : Best) (before : b.some ≡ true → Attained buy b.price os) where
+module _ (buy : Bool) (x : Order) (os : List Order) where
   own : counts buy x ≡ true → (p : ℕ) → x.price ≡ p → Attained buy p (x ∷ os)
   own c p e = record { order = x; live = Memᴰ.head refl; side = c; at = e }
 
-  kept : b.some ≡ true → (p : ℕ) → b.price ≡ p → Attained buy p (x ∷ os)
-  kept s p e = let a = before s in record { order = a.order; live = Memᴰ.tail a.live; side = a.side; at = a.at ∙ e }
+  kept : (q p : ℕ) → Attained buy q os → q ≡ p → Attained buy p (x ∷ os)
+  kept q p a e = record { order = a.order; live = Memᴰ.tail a.live; side = a.side; at = a.at ∙ e }
 
-  picked : counts buy x ≡ true → (side some : Bool) → b.some ≡ some → Attained buy (cond some (cond side (max b.price x.price) (min b.price x.price)) x.price) (x ∷ os)
-  picked c side false s = own c _ refl
-  picked c true true s = go (ltb b.price x.price) refl
+  picked : counts buy x ≡ true → (side : Bool) (q : ℕ) → Attained buy q os → Attained buy (cond side (max q x.price) (min q x.price)) (x ∷ os)
+  picked c true q a = go (ltb q x.price) refl
     where
-      go : (t : Bool) → ltb b.price x.price ≡ t → Attained buy (max b.price x.price) (x ∷ os)
-      go true q = own c _ (omega (arith, ltb-true b.price x.price q))
-      go false q = kept s _ (omega (arith, ltb-false b.price x.price q))
-  picked c false true s = go (ltb b.price x.price) refl
+      go : (t : Bool) → ltb q x.price ≡ t → Attained buy (max q x.price) (x ∷ os)
+      go true e = own c _ (omega (arith, ltb-true q x.price e))
+      go false e = kept q _ a (omega (arith, ltb-false q x.price e))
+  picked c false q a = go (ltb q x.price) refl
     where
-      go : (t : Bool) → ltb b.price x.price ≡ t → Attained buy (min b.price x.price) (x ∷ os)
-      go true q = kept s _ (omega (arith, ltb-true b.price x.price q))
-      go false q = own c _ (omega (arith, ltb-false b.price x.price q))
+      go : (t : Bool) → ltb q x.price ≡ t → Attained buy (min q x.price) (x ∷ os)
+      go true e = kept q _ a (omega (arith, ltb-true q x.price e))
+      go false e = own c _ (omega (arith, ltb-false q x.price e))
 
-  pub step_attained : (best_step buy x b).some ≡ true → Attained buy (best_step buy x b).price (x ∷ os)
+  pub step_attained : (b : Option ℕ) → ((q : ℕ) → b ≡ Some q → Attained buy q os) → (p : ℕ) → best_step buy x b ≡ Some p → Attained buy p (x ∷ os)
   unfolding best_step
-  step_attained = go (counts buy x) refl
+  step_attained b before p e = go (counts buy x) refl b refl e
     where
-      go : (t : Bool) → counts buy x ≡ t → (cond t (better buy x.price b) b).some ≡ true → Attained buy (cond t (better buy x.price b) b).price (x ∷ os)
-      go true c e = picked c buy b.some refl
-      go false c e = kept e _ refl
+      go : (t : Bool) → counts buy x ≡ t → (d : Option ℕ) → b ≡ d → cond t (better buy x.price d) d ≡ Some p → Attained buy p (x ∷ os)
+      go true c None q f = own c p cc
+      go true c (Some m) q f = let to : cond buy (max m x.price) (min m x.price) ≡ p = cc in subst (λ (r : ℕ). Attained buy r (x ∷ os)) to (picked c buy m (before m q))
+      go false c None q f = cc
+      go false c (Some m) q f = kept m p (before m q) cc
 
-pub attained_of_all : (buy : Bool) (os : List Order) → (best_of buy os).some ≡ true → Attained buy (best_of buy os).price os
+pub attained_of_all : (buy : Bool) (os : List Order) (p : ℕ) → best_of buy os ≡ Some p → Attained buy p os
 unfolding fold
-attained_of_all buy [] e = absurd (false≢true e)
-attained_of_all buy (x ∷ os) e = step_attained buy x os (best_of buy os) (attained_of_all buy os) e
+attained_of_all buy [] p e = cc
+attained_of_all buy (x ∷ os) p e = step_attained buy x os (best_of buy os) (attained_of_all buy os) p e
 
 -- ---- where none is shown, none of the side is live
-none_best : (b : Best) (n : ℕ) → level_if b.some b.price n ≡ Level.Empty → b.some ≡ false
-none_best b n = go b.some
-  where
-    go : (t : Bool) → level_if t b.price n ≡ Level.Empty → t ≡ false
-    go true e = absurd (let z : ◌≡◌ {A = ℕ} 0 1 = cc in omega arith)
-    go false e = refl
-
-pub none_live : (buy : Bool) (os : List Order) → level_of buy os ≡ Level.Empty → (o : Order) → Memᴰ o os → counts buy o ≡ true → ⊥
+pub none_live : (buy : Bool) (os : List Order) → level_of buy os ≡ None → (o : Order) → Memᴰ o os → counts buy o ≡ true → ⊥
 unfolding level_of
-none_live buy os e o m c = true≢false (sym (best_of_all buy os o m c).0 ∙ none_best (best_of buy os) _ e)
+none_live buy os e o m c = go (best_of buy os) e (best_of_all buy os o m c)
+  where
+    go : (b : Option ℕ) → level_by buy os b ≡ None → NoWorse buy o.price b → ⊥
+    go None f h = h
+    go (Some p) f h = cc
 
 -- ---- a live order has its shares at its own price and side
 same_side : (side : Bool) → beq side side ≡ true
@@ -130,18 +131,18 @@ module _ (buy : Bool) (os : List Order) (n p v : ℕ) where
   abbrev o : Order
   o = order_of n buy p v
 
-  best_again : (b : Best) → b.some ≡ true → b.price ≡ p → best_step buy o b ≡ record { some = true; price = p }
+  best_again : best_of buy os ≡ Some p → best_step buy o (best_of buy os) ≡ Some p
   unfolding best_step
-  best_again b s e = rw (same_side buy, s, e) (ap (λ (q : ℕ). record { some = true; price = q }) (go buy))
+  best_again e = rw (same_side buy, e) (ap Some (go buy))
     where
       go : (side : Bool) → cond side (max p p) (min p p) ≡ p
       go true = omega arith
       go false = omega arith
 
-  pub add_level : (m : ℕ) → level_of buy os ≡ Level.Best p m → level_of buy (insert order_number o os) ≡ Level.Best p (m + v)
+  pub add_level : (m : ℕ) → level_of buy os ≡ level_at p m → level_of buy (insert order_number o os) ≡ level_at p (m + v)
   unfolding level_of
   add_level m e =
       let sh = shows buy os p m e in
-      let best : best_of buy (insert order_number o os) ≡ record { some = true; price = p } = fold_insert (best_step buy) no_best order_number (best_comm buy) o os ∙ best_again (best_of buy os) sh.some sh.price in
+      let best : best_of buy (insert order_number o os) ≡ Some p = fold_insert (best_step buy) no_best order_number (best_comm buy) o os ∙ best_again sh.best in
       let sum : sum_by (shares_at buy p) (insert order_number o os) ≡ m + v = sum_insert order_number (shares_at buy p) o os ∙ (rw (shares_own o refl, sh.size) (omega arith)) in
       rw (best, sum)

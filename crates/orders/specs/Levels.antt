@@ -1,10 +1,9 @@
 -- What the best of a side is: document 01, "The book".
-use Rattle.std.specs.Prelude.{Bool, true, false, cond, ◌≢◌, ◌≡◌, ℕ, ◌+◌, max, min, ◌≤◌, eqb}
+use Rattle.std.specs.Prelude.{Bool, true, false, cond, ◌≢◌, ◌≡◌, ℕ, ◌+◌, max, min, ◌≤◌, eqb, Option, Some, None}
 use Rattle.std.specs.Bool.{beq}
 use mathlib.Core.List.{List, Memᴰ}
 use Rattle.places.specs.Places.{fold, sum_by}
 use Rattle.orders.specs.declared.Order.{Order}
-use Rattle.orders.specs.declared.levels.Best.{Best}
 use Rattle.orders.specs.declared.levels.Level.{Level}
 
 -- a live order of the side
@@ -12,16 +11,17 @@ abbrev pub counts : Bool → Order → Bool
 counts buy o = cond o.live (beq o.buy buy) false
 
 -- the highest buy, the lowest sell
-abbrev pub better : Bool → ℕ → Best → Best
-better buy p b = record { some = true; price = cond b.some (cond buy (max b.price p) (min b.price p)) p }
+abbrev pub better : Bool → ℕ → Option ℕ → Option ℕ
+better buy p None = Some p
+better buy p (Some q) = Some (cond buy (max q p) (min q p))
 
-unfoldable pub best_step : Bool → Order → Best → Best
+unfoldable pub best_step : Bool → Order → Option ℕ → Option ℕ
 best_step buy o b = cond (counts buy o) (better buy o.price b) b
 
-abbrev pub no_best : Best
-no_best = record { some = false; price = 0 }
+abbrev pub no_best : Option ℕ
+no_best = None
 
-abbrev pub best_of : Bool → List Order → Best
+abbrev pub best_of : Bool → List Order → Option ℕ
 best_of buy os = fold (best_step buy) no_best os
 
 -- the shares of an order at a price
@@ -29,12 +29,19 @@ unfoldable pub shares_at : Bool → ℕ → Order → ℕ
 shares_at buy p o = cond (counts buy o) (cond (eqb o.price p) o.volume 0) 0
 
 -- for each side none, or the best price with the exact share sum at it
-abbrev pub level_if : Bool → ℕ → ℕ → Level
-level_if true p n = Level.Best p n
-level_if false p n = Level.Empty
+abbrev pub level_at : (price size : ℕ) → Option Level
+level_at p n = Some (record { price = p; size = n })
 
-unfoldable pub level_of : Bool → List Order → Level
-level_of buy os = level_if (best_of buy os).some (best_of buy os).price (sum_by (shares_at buy (best_of buy os).price) os)
+abbrev pub level_if : Bool → ℕ → ℕ → Option Level
+level_if true p n = level_at p n
+level_if false p n = None
+
+abbrev pub level_by : Bool → List Order → Option ℕ → Option Level
+level_by buy os None = None
+level_by buy os (Some p) = level_at p (sum_by (shares_at buy p) os)
+
+unfoldable pub level_of : Bool → List Order → Option Level
+level_of buy os = level_by buy os (best_of buy os)
 
 -- ---- what is said of a level: no price of the side is better than the best
 abbrev pub NoBetter : Bool → ℕ → ℕ → Type 0

@@ -4,4 +4,5 @@ pub mod Levels
 pub mod Rows
 pub mod Passing
 pub mod Deciding
+pub mod Laying
 pub mod Promises

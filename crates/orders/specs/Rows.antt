@@ -1,10 +1,9 @@
 -- What the ten best prices of a side are: document 02, M-106.
-use Rattle.std.specs.Prelude.{Bool, true, false, cond, ◌≡◌, ℕ, zero, suc, ◌<◌, ◌≤◌, eqb, ltb, length, get_or, replicate}
+use Rattle.std.specs.Prelude.{Bool, true, false, cond, ◌≡◌, ℕ, zero, suc, ◌<◌, ◌≤◌, eqb, ltb, length, get_or, replicate, Option, Some, None}
 use mathlib.Core.List.{List, [], ◌∷◌, Memᴰ}
 use Rattle.places.specs.Places.{fold, sum_by, count}
 use Rattle.orders.specs.Levels.{counts, best_step, no_best, shares_at, level_if}
 use Rattle.orders.specs.declared.Order.{Order}
-use Rattle.orders.specs.declared.levels.Best.{Best}
 use Rattle.orders.specs.declared.levels.Level.{Level}
 use Rattle.orders.specs.declared.rows.LevelRow.{LevelRow}
 
@@ -26,10 +25,10 @@ abbrev pub beyond : Bool → LevelRow → ℕ → Bool
 beyond buy before p = cond before.used (ahead buy before.price p) true
 
 -- the best price beyond a row, if there is one
-unfoldable pub next_step : Bool → LevelRow → Order → Best → Best
+unfoldable pub next_step : Bool → LevelRow → Order → Option ℕ → Option ℕ
 next_step buy before o b = cond (beyond buy before o.price) (best_step buy o b) b
 
-abbrev pub next_of : Bool → LevelRow → List Order → Best
+abbrev pub next_of : Bool → LevelRow → List Order → Option ℕ
 next_of buy before os = fold (next_step buy before) no_best os
 
 -- a live order of the side stands at a price
@@ -40,13 +39,14 @@ stands_at buy p o = cond (counts buy o) (eqb o.price p) false
 abbrev pub row_of : Bool → ℕ → List Order → LevelRow
 row_of buy p os = record { used = true; price = p; size = sum_by (shares_at buy p) os; orders = count (stands_at buy p) os }
 
-abbrev pub row_if : Bool → LevelRow → LevelRow
-row_if true row = row
-row_if false row = no_row
+-- of no price, the empty row
+abbrev pub row_if : Bool → List Order → Option ℕ → LevelRow
+row_if buy os None = no_row
+row_if buy os (Some p) = row_of buy p os
 
 -- the row after a row
 unfoldable pub row_after : Bool → LevelRow → List Order → LevelRow
-row_after buy before os = row_if (next_of buy before os).some (row_of buy (next_of buy before os).price os)
+row_after buy before os = row_if buy os (next_of buy before os)
 
 -- so many rows, best first, each the one after the row before; where a price is wanting, the rest is empty
 unfoldable pub rows_from : ℕ → Bool → LevelRow → List Order → List LevelRow
@@ -62,7 +62,7 @@ abbrev pub row_at : List LevelRow → ℕ → LevelRow
 row_at rows i = get_or rows i no_row
 
 -- a row as one side of a quote
-abbrev pub as_level : LevelRow → Level
+abbrev pub as_level : LevelRow → Option Level
 as_level row = level_if row.used row.price row.size
 
 abbrev pub Better : Bool → ℕ → ℕ → Type 0

@@ -1,10 +1,9 @@
 // The live orders of eight symbols, 256 places each: what a change does to them, the best of each side, and the ten best prices.
 //
-// Nothing here knows of messages, of a message's number or of trades. The orders are taken by value and the next ones are handed back; the run of a book lends single arrays.
+// Nothing here knows of messages, of a message's number or of trades. A change is made in place.
 #![tactic(auto)]
 
 mod changes;
-mod landing;
 mod levels;
 mod rows;
 mod rules;
@@ -13,27 +12,22 @@ mod store;
 
 ghost use Rattle.std.specs.Prelude.{◌≡◌};
 ghost use Rattle.orders.specs.State.{no_order, no_orders};
-ghost use Rattle.orders.specs.Deciding.{change_as};
-ghost use Rattle.orders.specs.Promises.{fit_number};
+ghost use Rattle.orders.specs.Promises.{unfit_number};
 
-pub use changes::{judged, looked};
-pub use landing::{Landing, land};
 pub use levels::Level;
 use places::SYMBOLS;
 pub use rows::{LEVELS, LevelRow, no_rows};
-pub use rules::Verdict;
-pub use store::mirror;
 
 // Each symbol's own places.
 pub const ORDERS: usize = 256;
 
 // The same, as searches take it.
-pub const EACH: u16 = ORDERS as u16;
+pub(crate) const EACH: u16 = ORDERS as u16;
 
 // The places of all symbols.
 pub const PLACES: usize = SYMBOLS * ORDERS;
 
-// A place for an order: empty, or a live one.
+// A place for an order: empty, or a live one. C keeps this layout, through which no Option goes.
 #[repr(C)]
 #[derive(Clone, Copy)]
 pub struct Order {
@@ -45,6 +39,7 @@ pub struct Order {
 }
 
 // The orders, and what searches read of them: their numbers, whether each is live, and, for each home of each symbol, how many places from it on may hold an order of it.
+// Arrays side by side, since the C interface has them so. The fields stay public, since a narrower type would ask more of a host in Rattle.
 #[repr(C)]
 #[derive(Clone, Copy)]
 pub struct Orders {
@@ -54,7 +49,7 @@ pub struct Orders {
     pub spans: [u16; PLACES],
 }
 
-// What is done to a symbol's orders. An order comes as its number, whether it buys, its price and its volume.
+// What is done to a symbol's orders. An order comes as its number, whether it buys, its price and its volume: the rules (`apply_to`) and demand 2 name the cases so.
 #[derive(Clone, Copy)]
 pub enum Change {
     Nothing,
@@ -67,40 +62,23 @@ pub enum Change {
     Replace(u64, u64, bool, u32, u32),
 }
 
-// The same, flat, as calls pass it on: the order that it is about, the old one of a replace, and the new number of a replace. What a kind lacks is 0.
-#[derive(Clone, Copy)]
-pub struct Edit {
-    pub kind: Kind,
-    pub order: u64,
-    pub fresh: u64,
-    pub buy: bool,
-    pub price: u32,
-    pub volume: u32,
-}
-
-#[derive(Clone, Copy)]
-pub enum Kind {
-    Nothing,
-    Add,
-    Modify,
-    Delete,
-    Execute,
-    Replace,
-}
-
-// Whether it fits the orders, and whether there is room.
-#[derive(Clone, Copy)]
-pub enum Fit {
-    Fits,
+// Why a change changes nothing: it doesn't fit the orders, or there is no room.
+#[derive(Clone, Copy, PartialEq, Eq)]
+pub enum Unfit {
     Misfit,
     NoRoom,
 }
 
-// The next orders: those that came in, where it doesn't fit.
-#[derive(Clone, Copy)]
-pub struct Changed {
-    pub orders: Orders,
-    pub fit: Fit,
+// Document 01's number of it.
+impl From<Unfit> for u8 {
+    ghost from_gives = { λ e n. n ≡ unfit_number e };
+
+    fn from(e: Unfit) -> u8 {
+        match e {
+            Unfit::Misfit => 9,
+            Unfit::NoRoom => 10,
+        }
+    }
 }
 
 impl Orders {
@@ -108,89 +86,17 @@ impl Orders {
     pub fn new() -> Orders
         ensures { result ≡ no_orders }
     {
-        let o = no_order();
-        let places = [o; PLACES];
-        let numbers = [0; PLACES];
-        let lives = [false; PLACES];
-        let spans = [0; PLACES];
         Orders {
-            places,
-            numbers,
-            lives,
-            spans,
+            places: [no_order(); PLACES],
+            numbers: [0; PLACES],
+            lives: [false; PLACES],
+            spans: [0; PLACES],
         }
     }
 }
 
-// A change, flat.
-pub fn edit_of(c: Change) -> Edit
-    ensures { change_as result ≡ c }
-{
-    match c {
-        Change::Nothing => Edit {
-            kind: Kind::Nothing,
-            order: 0,
-            fresh: 0,
-            buy: false,
-            price: 0,
-            volume: 0,
-        },
-        Change::Add(order, buy, price, volume) => Edit {
-            kind: Kind::Add,
-            order,
-            fresh: 0,
-            buy,
-            price,
-            volume,
-        },
-        Change::Modify(order, buy, price, volume) => Edit {
-            kind: Kind::Modify,
-            order,
-            fresh: 0,
-            buy,
-            price,
-            volume,
-        },
-        Change::Delete(order) => Edit {
-            kind: Kind::Delete,
-            order,
-            fresh: 0,
-            buy: false,
-            price: 0,
-            volume: 0,
-        },
-        Change::Execute(order, volume) => Edit {
-            kind: Kind::Execute,
-            order,
-            fresh: 0,
-            buy: false,
-            price: 0,
-            volume,
-        },
-        Change::Replace(order, fresh, buy, price, volume) => Edit {
-            kind: Kind::Replace,
-            order,
-            fresh,
-            buy,
-            price,
-            volume,
-        },
-    }
-}
-
-// Document 01's number of whether it fits.
-pub fn number_of_fit(f: Fit) -> u8
-    ensures { result ≡ fit_number f }
-{
-    match f {
-        Fit::Fits => 0,
-        Fit::Misfit => 9,
-        Fit::NoRoom => 10,
-    }
-}
-
 // An empty place, all zero.
-pub fn no_order() -> Order
+pub(crate) fn no_order() -> Order
     ensures { result ≡ no_order }
 {
     Order {

@@ -1,18 +1,18 @@
 // The ten best prices of a side, best first: each with the exact sum of the shares and the number of orders at it.
-ghost use Rattle.std.specs.Prelude.{◌≡◌, ◌<◌, replicate};
-ghost use Rattle.places.specs.Places.{symbols};
-ghost use Rattle.orders.specs.State.{shelf_at, live_at};
+ghost use Rattle.std.specs.Prelude.{◌≡◌, replicate};
+ghost use Rattle.orders.specs.State.{live_at};
 ghost use Rattle.orders.specs.Rows.{levels, no_row, ahead, beyond, row_after, side_rows};
 ghost use Rattle.orders.specs.Passing.{alone, met_by, row_step, HasRoom, Grows};
 
 use crate::levels::on_side;
-use crate::{ORDERS, Order, Orders, no_order};
-use places::SYMBOLS;
+use crate::{ORDERS, Order, Orders};
+use places::Seat;
 
 // The prices of a side that are shown.
 pub const LEVELS: usize = 10;
 
-// A price with the exact sum of the shares and the number of live orders at it. A row that is not needed is marked, and all zero: 0 is a price too.
+// A price with the exact sum of the shares and the number of live orders at it. A row that is not needed is marked, and all zero: 0 is a price too. A mark, since rows cross the C
+// interface, and no Option does.
 #[repr(C)]
 #[derive(Clone, Copy)]
 pub struct LevelRow {
@@ -24,31 +24,13 @@ pub struct LevelRow {
 
 impl Orders {
     // The rows of a side of the symbol at place k. None is used past the eighth.
-    pub fn rows(self, k: usize, buy: bool) -> [LevelRow; LEVELS]
-        ensures { result ≡ side_rows buy (live_at self k) }
+    pub fn rows(&self, k: usize, buy: bool) -> [LevelRow; LEVELS]
+        ensures { result ≡ side_rows buy (live_at self.now k) }
     {
-        if SYMBOLS <= k {
+        let Some(seat) = Seat::of(k) else {
             return no_rows();
-        }
-        side_rows(self.part(k), buy)
-    }
-
-    // A symbol's own places, copied out of the orders of all, so that each pass takes them alone.
-    fn part(self, k: usize) -> [Order; ORDERS]
-        requires { k < symbols }
-        ensures { result ≡ shelf_at self k }
-    {
-        let base = k * ORDERS;
-        let none = no_order();
-        let mut part = [none; ORDERS];
-        let mut j: usize = 0;
-        while j < ORDERS {
-            let i = base + j;
-            let o = self.places[i];
-            part[j] = o;
-            j += 1;
-        }
-        part
+        };
+        side_rows(self.shelf(seat), buy)
     }
 }
 
@@ -72,39 +54,35 @@ fn no_row() -> LevelRow
 }
 
 // Each row is the one after the row before, until there is no further price.
-fn side_rows(part: [Order; ORDERS], buy: bool) -> [LevelRow; LEVELS]
-    ensures { result ≡ side_rows buy part }
+fn side_rows(shelf: &[Order; ORDERS], buy: bool) -> [LevelRow; LEVELS]
+    ensures { result ≡ side_rows buy shelf.now }
 {
     let mut rows = no_rows();
     let mut before = no_row();
-    let mut i: usize = 0;
-    while i < LEVELS {
-        let row = row_after(part, buy, before);
+    for i in 0..LEVELS {
+        let row = row_after(shelf, buy, before);
         if !row.used {
             return rows;
         }
         rows[i] = row;
         before = row;
-        i += 1;
     }
     rows
 }
 
 // The best price beyond a row, with what stands at it.
-fn row_after(part: [Order; ORDERS], buy: bool, before: LevelRow) -> LevelRow
-    ensures { result ≡ row_after buy before part }
+fn row_after(shelf: &[Order; ORDERS], buy: bool, before: LevelRow) -> LevelRow
+    ensures { result ≡ row_after buy before shelf.now }
 {
     let mut row = no_row();
-    let mut j: usize = ORDERS;
-    while 0 < j {
-        j -= 1;
-        let o = part[j];
-        row = row_with(row, o, buy, before);
+    for o in shelf {
+        row = row_with(row, *o, buy, before);
     }
     row
 }
 
 // One order more: it counts where it stands on the side, beyond the row before.
+#[tactic(auto, unfolding(crate::specs::Passing::row_step))]
 fn row_with(row: LevelRow, o: Order, buy: bool, before: LevelRow) -> LevelRow
     requires { HasRoom row }
     ensures steps { result ≡ row_step buy before o row }
@@ -165,7 +143,7 @@ fn is_beyond(before: LevelRow, price: u32, buy: bool) -> bool
     }
 }
 
-// Strictly better: a higher buy, a lower sell.
+// Strictly better: a higher buy, a lower sell. Said by `<` alone: an Ordering from `cmp` would have to be asked by the side just so.
 fn is_ahead(price: u32, than: u32, buy: bool) -> bool
     ensures { result ≡ ahead buy price than }
 {

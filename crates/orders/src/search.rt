@@ -1,30 +1,50 @@
-// Searching a symbol's places: what is read of them is lent. Where a search begins and how far it goes is its own affair: it promises what stands at the place that it hands back.
-ghost use Rattle.std.specs.Prelude.{◌≡◌, List, ℕ, ◌<◌, ◌*◌};
-ghost use Rattle.places.specs.Places.{symbols, shelf};
-ghost use Rattle.places.specs.Homes.{free_in, Mirrored, Near};
-ghost use Rattle.orders.specs.State.{orders_each, order_number, order_live};
-ghost use Rattle.orders.specs.Deciding.{OrderAt, OrderRoom};
+// A symbol's own places, and searching them. Where a search begins and how far it goes is its own affair: it promises what stands at the place that it hands back.
+// It does so in a sound state. That one is sound is a premise, and no invariant of the type: the C interface hands in a state as it lies in memory.
+ghost use Rattle.std.specs.Prelude.{◌≡◌, ◌<◌, ◌≤◌, IfSome, MatchOption};
+ghost use Rattle.orders.specs.State.{orders_each, shelf_at, Wf};
+ghost use Rattle.orders.specs.Deciding.{OrderAt, OrderRoom, Finds, place_of, room_in};
 
-use crate::{EACH, ORDERS, Order, PLACES};
+use crate::{EACH, ORDERS, Order, Orders, Unfit};
+use places::Seat;
 
-// Where a live order lies among its symbol's places, or ORDERS.
-pub(crate) fn find<'a>(
-    numbers: &'a [u64; PLACES],
-    lives: &'a [bool; PLACES],
-    spans: &'a [u16; PLACES],
-    k: usize,
-    number: u64,
-) -> usize
-    requires { k < symbols }
-    ensures { (l : List Order) → Mirrored order_number order_live l numbers.now lives.now → Near numbers.now lives.now spans.now (k * orders_each) orders_each → OrderAt number (shelf orders_each k l) result }
-{
-    places::find(numbers, lives, spans, k * ORDERS, EACH, number)
+// A live order, and the place of its symbol at which it lies.
+#[derive(Clone, Copy)]
+pub(crate) struct Found {
+    pub(crate) place: usize,
+    pub(crate) order: Order,
 }
 
-// An empty place for an order of this number, the first from its home on, or ORDERS.
-pub(crate) fn room(lives: &[bool; PLACES], k: usize, number: u64) -> usize
-    requires { k < symbols }
-    ensures { (result ≡ free_in lives.now (k * orders_each) orders_each number) × ((l : List Order) (ns : List ℕ) → Mirrored order_number order_live l ns lives.now → OrderRoom (shelf orders_each k l) result) }
-{
-    places::room(lives, k * ORDERS, EACH, number)
+impl Orders {
+    pub(crate) fn shelf(&self, seat: Seat) -> &[Order; ORDERS]
+        ensures { result.now ≡ shelf_at self.now seat.place }
+    {
+        let (shelves, _) = self.places.as_chunks::<ORDERS>();
+        &shelves[seat.place]
+    }
+
+    // The live order of a number. What is not live doesn't fit.
+    pub(crate) fn live(&self, seat: Seat, number: u64) -> Result<Found, Unfit>
+        ensures { Wf self.now → Finds number (shelf_at self.now seat.place) result }
+    {
+        let place = self.find(seat, number).ok_or(Unfit::Misfit)?;
+        let order = self.shelf(seat)[place];
+        Ok(Found { place, order })
+    }
+
+    // Where a live order lies among its symbol's places, if it is there.
+    pub(crate) fn find(&self, seat: Seat, number: u64) -> Option<usize>
+        ensures within { IfSome result (λ i. i < orders_each) }
+        ensures finds { Wf self.now → OrderAt number (shelf_at self.now seat.place) (place_of result) }
+    {
+        seat.shelf(EACH)
+            .find(&self.numbers, &self.lives, &self.spans, number)
+    }
+
+    // An empty place for an order of this number, the first from its home on, if there is one.
+    pub(crate) fn room(&self, seat: Seat, number: u64) -> Option<usize>
+        ensures near { MatchOption result (orders_each ≤ room_in self.now seat.place number) (λ i. (i ≡ room_in self.now seat.place number) × (i < orders_each)) }
+        ensures empty { Wf self.now → OrderRoom (shelf_at self.now seat.place) (place_of result) }
+    {
+        seat.shelf(EACH).room(&self.lives, number)
+    }
 }

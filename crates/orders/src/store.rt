@@ -1,158 +1,71 @@
 // What was decided, put into the places. Numbers and marks follow the orders, and each home's span covers the orders of that home.
-ghost use Rattle.std.specs.Prelude.{◌≡◌, ◌<◌, eqb};
-ghost use Rattle.places.specs.Places.{symbols};
+ghost use Rattle.std.specs.Prelude.{◌≡◌, eqb};
 ghost use Rattle.places.specs.Homes.{leaves};
 ghost use Rattle.orders.specs.State.{orders_each};
-ghost use Rattle.orders.specs.Deciding.{with_order, landed_in, settled_at, emptied_to, beside, beside_with, Mirrors};
+ghost use Rattle.orders.specs.Deciding.{with_order, settled_by, emptied_to};
 
 use crate::rules::Verdict;
-use crate::{Changed, EACH, Fit, ORDERS, Order, Orders, PLACES, no_order};
-use places::{SYMBOLS, home_of, lowered, raised};
+use crate::{EACH, ORDERS, Order, Orders, no_order};
+use places::{Seat, home_of, raised};
 
 impl Orders {
-    pub(crate) fn settle(self, k: usize, v: Verdict) -> Changed
-        requires { k < symbols }
-        ensures { result ≡ settled_at self k v }
+    pub(crate) fn settle(&mut self, seat: Seat, v: Verdict)
+        ensures { self.new ≡ settled_by self.old seat.place v }
     {
-        let fit = v.fit;
-        match fit {
-            Fit::Misfit => Changed {
-                orders: self,
-                fit: Fit::Misfit,
-            },
-            Fit::NoRoom => Changed {
-                orders: self,
-                fit: Fit::NoRoom,
-            },
-            Fit::Fits => {
-                let orders = self.landed(k, v.gone, v.place, v.order);
-                Changed {
-                    orders,
-                    fit: Fit::Fits,
-                }
+        match v {
+            Verdict::Keeps => {}
+            Verdict::Lands(place, order) => self.put(seat, place, order),
+            Verdict::Moves(gone, place, order) => {
+                self.put(seat, gone, no_order());
+                self.put(seat, place, order);
             }
         }
     }
 
-    // One place is emptied, then one filled: ORDERS for none.
-    fn landed(self, k: usize, gone: usize, place: usize, order: Order) -> Orders
-        requires { k < symbols }
-        ensures { result ≡ landed_in self k gone place order }
+    // An order goes to a place of its symbol, whatever lay there; past the last place nothing is stored. The span of its number's home is raised as far as it lies; where a live number
+    // leaves the place, that of its home is lowered to the last order of that home.
+    #[tactic(auto, using(crate::proofs::Sizes::home_in))]
+    fn put(&mut self, seat: Seat, i: usize, o: Order)
+        ensures { self.new ≡ with_order self.old seat.place i o }
     {
-        if ORDERS <= gone {
-            if ORDERS <= place {
-                return self;
-            }
-            return self.put_order(k, place, order);
-        }
-        let none = no_order();
-        let rest = self.put_order(k, gone, none);
-        rest.put_order(k, place, order)
-    }
-
-    // An order goes to a place of its symbol, whatever lay there.
-    fn put_order(mut self, k: usize, i: usize, o: Order) -> Orders
-        requires { k < symbols }
-        ensures { result ≡ with_order self k i o }
-    {
-        let mut numbers = self.numbers;
-        let mut lives = self.lives;
-        let mut spans = self.spans;
-        mirror_one(&mut numbers, &mut lives, &mut spans, k, i, o.number, o.live);
-        self.numbers = numbers;
-        self.lives = lives;
-        self.spans = spans;
         if ORDERS <= i {
-            return self;
+            return;
         }
-        let at = k * ORDERS + i;
+        let from = seat.place * ORDERS;
+        let at = from + i;
+        let was = self.numbers[at];
+        let lived = self.lives[at];
         self.places[at] = o;
-        self
+        self.numbers[at] = o.number;
+        self.lives[at] = o.live;
+        let gains = from + home_of(o.number, EACH);
+        self.spans[gains] = raised(self.spans[gains], EACH, o.number, o.live, i);
+        if leaves(lived, was, o.number, o.live) {
+            let loses = from + home_of(was, EACH);
+            let span = self.spans[loses];
+            self.spans[loses] = seat
+                .shelf(EACH)
+                .lowered(&self.numbers, &self.lives, span, was);
+        }
     }
 
     // Every place of a symbol is emptied.
-    pub(crate) fn empty(self, k: usize) -> Orders
-        requires { k < symbols }
-        ensures { result ≡ emptied_to self k orders_each }
+    pub(crate) fn empty(&mut self, seat: Seat)
+        ensures { self.new ≡ emptied_to self.old seat.place orders_each }
     {
-        let from = k * ORDERS;
-        let none = no_order();
-        let mut next = self;
-        let mut j: usize = 0;
-        while j < ORDERS {
-            let i = from + j;
-            next.places[i] = none;
-            next.numbers[i] = 0;
-            next.lives[i] = false;
-            next.spans[i] = 0;
-            j += 1;
-        }
-        next
-    }
-}
-
-// What searches read, once a place was emptied and then another one filled: ORDERS for none. Past the eighth symbol nothing changes.
-pub fn mirror(
-    numbers: &mut [u64; PLACES],
-    lives: &mut [bool; PLACES],
-    spans: &mut [u16; PLACES],
-    k: usize,
-    gone: usize,
-    place: usize,
-    o: Order,
-)
-    ensures { Mirrors (beside numbers.old lives.old spans.old) k gone place o (beside numbers.new lives.new spans.new) }
-{
-    if SYMBOLS <= k {
-        return;
-    }
-    mirror_one(numbers, lives, spans, k, gone, 0, false);
-    mirror_one(numbers, lives, spans, k, place, o.number, o.live);
-}
-
-// The same of one place. The span of the new number's home is raised as far as it lies; where a live number leaves the place, that of its home is lowered to the last order of that home.
-fn mirror_one(
-    numbers: &mut [u64; PLACES],
-    lives: &mut [bool; PLACES],
-    spans: &mut [u16; PLACES],
-    k: usize,
-    i: usize,
-    number: u64,
-    live: bool,
-)
-    requires { k < symbols }
-    ensures { beside numbers.new lives.new spans.new ≡ beside_with (beside numbers.old lives.old spans.old) k i number live }
-{
-    if ORDERS <= i {
-        return;
-    }
-    let from = k * ORDERS;
-    let at = from + i;
-    let was = numbers[at];
-    let lived = lives[at];
-    numbers[at] = number;
-    lives[at] = live;
-    let gains = from + home_of(number, EACH);
-    let span = spans[gains];
-    let more = raised(span, EACH, number, live, i);
-    spans[gains] = more;
-    if leaves(lived, was, number, live) {
-        let loses = from + home_of(was, EACH);
-        let span = spans[loses];
-        let less = lowered(numbers, lives, span, from, EACH, was);
-        spans[loses] = less;
+        let from = seat.place * ORDERS;
+        let to = from + ORDERS;
+        self.places[from..to].fill(no_order());
+        self.numbers[from..to].fill(0);
+        self.lives[from..to].fill(false);
+        self.spans[from..to].fill(0);
     }
 }
 
 // Whether a live number leaves a place that is stored to.
+#[tactic(auto, unfolding(places::specs::Homes::leaves))]
 fn leaves(lived: bool, was: u64, number: u64, live: bool) -> bool
     ensures { result ≡ leaves lived live (eqb was number) }
 {
-    if lived {
-        if live {
-            return was != number;
-        }
-        return true;
-    }
-    false
+    lived && !(live && was == number)
 }

@@ -1,10 +1,10 @@
 -- The numbers that a call can answer with are those of the clauses of its rule, and each clause that refuses leaves the buffer.
+use Rattle.std.specs.Prelude.{Option, Some, None}
 use Rattle.std.proofs.Common.{◌≡◌, ℕ, zero, suc, ◌<◌, ◌≤◌, Bool, true, false, ltb, ◌⊎◌, List, [], ◌∷◌, length, sym, refl, ap, ◌∙◌, subst, ⊎_elim, true≢false, arith, ltb-false, ltb-true}
 use Rattle.wire.specs.Outcome.{refused, number_of}
 use Rattle.wire.specs.Fields.{fault_as}
 use Rattle.wire.specs.Message.{type_of, fault_in}
 use Rattle.wire.specs.FirstBad.{FirstBadOf, Locates}
-use Rattle.wire.specs.declared.Fault.{Fault}
 use Rattle.wire.specs.declared.Message.{Message}
 use Rattle.markets.specs.declared.Market.{Market}
 use Rattle.wire.proofs.Cases.{done_is_not_refused}
@@ -29,16 +29,16 @@ pub laid_answers : (line out : List ℕ) → among (number_of (laid line out).ou
 unfolding laid
 laid_answers line out = laid_if_answers (ltb (length out) (length line)) line out
 
-by_checks : (no_line : Bool) (bad : Fault) (known late short : Bool) (line out : List ℕ) → ltb (length out) (length line) ≡ short → among (number_of (line_by no_line bad known late line out).outcome) (0 ∷ 3 ∷ 4 ∷ 5 ∷ 14 ∷ 15 ∷ []) ≡ true
+by_checks : (no_line : Bool) (bad : Option ℕ) (known late short : Bool) (line out : List ℕ) → ltb (length out) (length line) ≡ short → among (number_of (line_by no_line bad known late line out).outcome) (0 ∷ 3 ∷ 4 ∷ 5 ∷ 14 ∷ 15 ∷ []) ≡ true
 unfolding line_by laid among
 by_checks true bad known late short line out e = refl
-by_checks false (Fault.At n) known late short line out e = refl
-by_checks false Fault.Nothing false late short line out e = refl
-by_checks false Fault.Nothing true true short line out e = refl
-by_checks false Fault.Nothing true false true line out e = rw e
-by_checks false Fault.Nothing true false false line out e = rw e
+by_checks false (Some n) known late short line out e = refl
+by_checks false None false late short line out e = refl
+by_checks false None true true short line out e = refl
+by_checks false None true false true line out e = rw e
+by_checks false None true false false line out e = rw e
 
-pub line_answers : (market : Market) (s : Listing) (m : Message) (plain : List ℕ) (sequence second : ℕ) (out : List ℕ) → among (number_of (line_of market s m plain sequence second out).outcome) (0 ∷ 3 ∷ 4 ∷ 5 ∷ 14 ∷ 15 ∷ []) ≡ true
+pub line_answers : (market : Market) (s : Option Listing) (m : Message) (plain : List ℕ) (sequence second : ℕ) (out : List ℕ) → among (number_of (line_of market s m plain sequence second out).outcome) (0 ∷ 3 ∷ 4 ∷ 5 ∷ 14 ∷ 15 ∷ []) ≡ true
 unfolding line_of
 line_answers market s m plain sequence second out = by_checks _ _ _ _ _ _ out refl
 
@@ -49,26 +49,26 @@ module _ (market : Market) (m : Message) (plain : List ℕ) where
   with_line type number offset l = record { bad_field = λ four. record { has_line = type; first = l.bad_field four }; answered = λ n x. l.answered n x.first; no_field = l.no_field }
 
   -- where none is bad
-  none_bad : fault_in market m plain ≡ Fault.Nothing → (n : ℕ) → FirstBadOn market m plain n → ⊥
+  none_bad : fault_in market m plain ≡ None → (n : ℕ) → FirstBadOn market m plain n → ⊥
   none_bad e n x =
       let four = ((field_locates market m plain).answered n x.first).0 in
-      omega (arith, sym (ap (λ (y : Fault). number_of (fault_as y).outcome) e) ∙ four)
+      omega (arith, sym (ap (λ (y : Option ℕ). number_of (fault_as y).outcome) e) ∙ four)
 
-  laid_nowhere : fault_in market m plain ≡ Fault.Nothing → (short : Bool) (line out : List ℕ) → Locates (FirstBadOn market m plain) (number_of (laid_if short line out).outcome) (laid_if short line out).offset
+  laid_nowhere : fault_in market m plain ≡ None → (short : Bool) (line out : List ℕ) → Locates (FirstBadOn market m plain) (number_of (laid_if short line out).outcome) (laid_if short line out).offset
   laid_nowhere e true line out = locates_none (FirstBadOn market m plain) 15 (λ z. omega (arith, z)) (none_bad e)
   laid_nowhere e false line out = locates_none (FirstBadOn market m plain) 0 (λ z. omega (arith, z)) (none_bad e)
 
-  by_fault : (no_line : Bool) → has_no_line (type_of m) ≡ no_line → (bad : Fault) → fault_in market m plain ≡ bad → (known late : Bool) (line out : List ℕ)
+  by_fault : (no_line : Bool) → has_no_line (type_of m) ≡ no_line → (bad : Option ℕ) → fault_in market m plain ≡ bad → (known late : Bool) (line out : List ℕ)
       → Locates (FirstBadOn market m plain) (number_of (line_by no_line bad known late line out).outcome) (line_by no_line bad known late line out).offset
   unfolding line_by laid
   by_fault true q bad e known late line out = locates_none (FirstBadOn market m plain) 3 (λ z. omega (arith, z)) (λ n x. true≢false (sym q ∙ x.has_line))
-  by_fault false q (Fault.At k) e known late line out =
-      with_line q 4 k (subst (λ (y : Fault). Locates (FirstBadOf market m plain) (number_of (fault_as y).outcome) (fault_as y).offset) e (field_locates market m plain))
-  by_fault false q Fault.Nothing e false late line out = locates_none (FirstBadOn market m plain) 5 (λ z. omega (arith, z)) (none_bad e)
-  by_fault false q Fault.Nothing e true true line out = locates_none (FirstBadOn market m plain) 14 (λ z. omega (arith, z)) (none_bad e)
-  by_fault false q Fault.Nothing e true false line out = laid_nowhere e (ltb (length out) (length line)) line out
+  by_fault false q (Some k) e known late line out =
+      with_line q 4 k (subst (λ (y : Option ℕ). Locates (FirstBadOf market m plain) (number_of (fault_as y).outcome) (fault_as y).offset) e (field_locates market m plain))
+  by_fault false q None e false late line out = locates_none (FirstBadOn market m plain) 5 (λ z. omega (arith, z)) (none_bad e)
+  by_fault false q None e true true line out = locates_none (FirstBadOn market m plain) 14 (λ z. omega (arith, z)) (none_bad e)
+  by_fault false q None e true false line out = laid_nowhere e (ltb (length out) (length line)) line out
 
-  pub line_locates : (s : Listing) (sequence second : ℕ) (out : List ℕ)
+  pub line_locates : (s : Option Listing) (sequence second : ℕ) (out : List ℕ)
       → Locates (FirstBadOn market m plain) (number_of (line_of market s m plain sequence second out).outcome) (line_of market s m plain sequence second out).offset
   unfolding line_of
   line_locates s sequence second out = by_fault (has_no_line (type_of m)) refl (fault_in market m plain) refl _ _ _ out
@@ -82,15 +82,15 @@ pub laid_refused : (line out : List ℕ) (k : ℕ) → (laid line out).outcome �
 unfolding laid
 laid_refused line out k e = laid_if_refused (ltb (length out) (length line)) line out k e
 
-by_refusal : (no_line : Bool) (bad : Fault) (known late : Bool) (line out : List ℕ) (k : ℕ) → (line_by no_line bad known late line out).outcome ≡ refused k → (line_by no_line bad known late line out).out ≡ out
+by_refusal : (no_line : Bool) (bad : Option ℕ) (known late : Bool) (line out : List ℕ) (k : ℕ) → (line_by no_line bad known late line out).outcome ≡ refused k → (line_by no_line bad known late line out).out ≡ out
 unfolding line_by
 by_refusal true bad known late line out k e = refl
-by_refusal false (Fault.At n) known late line out k e = refl
-by_refusal false Fault.Nothing false late line out k e = refl
-by_refusal false Fault.Nothing true true line out k e = refl
-by_refusal false Fault.Nothing true false line out k e = laid_refused line out k e
+by_refusal false (Some n) known late line out k e = refl
+by_refusal false None false late line out k e = refl
+by_refusal false None true true line out k e = refl
+by_refusal false None true false line out k e = laid_refused line out k e
 
-pub line_refused : (market : Market) (s : Listing) (m : Message) (plain : List ℕ) (sequence second : ℕ) (out : List ℕ) (k : ℕ) → (line_of market s m plain sequence second out).outcome ≡ refused k → (line_of market s m plain sequence second out).out ≡ out
+pub line_refused : (market : Market) (s : Option Listing) (m : Message) (plain : List ℕ) (sequence second : ℕ) (out : List ℕ) (k : ℕ) → (line_of market s m plain sequence second out).outcome ≡ refused k → (line_of market s m plain sequence second out).out ≡ out
 unfolding line_of
 line_refused market s m plain sequence second out k e = by_refusal _ _ _ _ _ out k e
 

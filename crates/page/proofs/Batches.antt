@@ -65,8 +65,8 @@ nothing [] e = refl
 nothing (m ∷ ms) e = absurd (omega (arith, e))
 
 module _ {b₀ : Book} {stream : List ℕ} {from place second : ℕ} {before : List ℕ} {b : Book} {here p n : ℕ} {out : List ℕ} (l : Rest b₀ stream from place second before b here p n out) (whole : length out ≡ length before)
-    (market : Market) (names : Symbols) (named : market ≡ (view b).market) (tells : Tells names (view b)) (notes₀ notes : List ℕ) (long : length notes ≡ length notes₀) (r : Noted) (w : Notes b stream here notes₀ r notes)
-    (t : Texts) (after : List ℕ) (x : LaysNoted market names stream here notes p second out n t after) where
+    {market : Market} {names : Symbols} (named : market ≡ (view b).market) (tells : Tells names (view b)) {notes₀ notes : List ℕ} {r : Noted} (w : Notes b stream here notes₀ r notes)
+    {t : Texts} {after : List ℕ} (x : LaysNoted market names stream here notes p second out n t after) (long : length notes ≡ length notes₀) where
   abbrev passed : List (List ℕ)
   passed = x.so_far.passed
 

@@ -1,5 +1,6 @@
 -- A message that was done has been read, so it has no bad field, and has met its symbol, so that is registered: nothing refuses its line.
-use Rattle.std.proofs.Common.{◌≡◌, ℕ, ◌≤◌, false, List, take, drop, sym, refl, ap, ◌∙◌, arith}
+use Rattle.std.specs.Prelude.{is_some}
+use Rattle.std.proofs.Common.{◌≡◌, ℕ, ◌≤◌, true, false, List, take, drop, sym, refl, ap, ◌∙◌, arith}
 use mathlib.Core.Option.{Option, none, some, map}
 use Rattle.wire.specs.Outcome.{Outcome, done}
 use Rattle.wire.specs.Reading.{reach_of, read_of}
@@ -18,11 +19,9 @@ use Rattle.book.specs.declared.walk.Moved.{Moved}
 use Rattle.book.proofs.Isolation.{own_symbol}
 use Rattle.book.proofs.Reaching.{reached_wf}
 use Rattle.feed.specs.Reader.{index_of}
-use Rattle.columns.specs.Columns.{rendered}
-use Rattle.page.specs.Columns.{columns_of}
 use Rattle.page.specs.Printing.{has_no_line, last_second, laid, line_of, told}
 use Rattle.page.specs.Printout.{sequence_of, done_text, passed_text}
-use Rattle.page.proofs.Cases.{line_fields_good, line_good}
+use Rattle.page.proofs.Cases.{line_good}
 use Rattle.page.proofs.Printouts.{passed_done, line_prints}
 
 -- the index that a message means is the one that stands in it
@@ -43,13 +42,13 @@ index_meant (Message.Clear h s) = refl
 index_meant (Message.Status h s) = refl
 
 -- what was done has met its symbol, and that is told of it
-met : (v : View) (m : Message) → (act_on v (meant m)).answer ≡ 0 → (told_in (index_in m) (act_on v (meant m)).view).answer ≡ 0
+met : (v : View) (m : Message) → (act_on v (meant m)).answer ≡ 0 → is_some (told_in (index_in m) (act_on v (meant m)).view) ≡ true
 unfolding act_on told_in told_of
 met v m e = rw (← index_meant m) (go (symbol_in (index_of (meant m)) v) refl e)
   where
-    go : (x : Option Symbol) → symbol_in (index_of (meant m)) v ≡ x → (act_at v (place_in (index_of (meant m)) v) x (meant m)).answer ≡ 0 → (told_in (index_of (meant m)) (act_on v (meant m)).view).answer ≡ 0
+    go : (x : Option Symbol) → symbol_in (index_of (meant m)) v ≡ x → (act_at v (place_in (index_of (meant m)) v) x (meant m)).answer ≡ 0 → is_some (told_in (index_of (meant m)) (act_on v (meant m)).view) ≡ true
     go none q z = absurd (omega (arith, z))
-    go (some s) q z = ap (λ (x : Option Symbol). (told_of (map entry_of x)).answer) (own_symbol v (meant m) s q)
+    go (some s) q z = ap (λ (x : Option Symbol). is_some (told_of (map entry_of x))) (own_symbol v (meant m) s q)
 
 -- so the text that is laid of a done 100 or 111 is the line that `line` prints of it, on any day and into any buffer with room for it
 pub done_gets_its_line : {b : Book} → Reached b → {s : List ℕ} {at n : ℕ} {r : Moved} → Moves b s at r → reach_of (drop at s) ≡ done n → r.answer ≡ 0 → (m : Message) → (read_of (view b).market (take n (drop at s))).outcome ≡ done m
@@ -60,9 +59,8 @@ done_gets_its_line {b = b} p {s = s} {at = at} {n = n} {r = r} moves reach zero 
     let o = moves.obeys (reached_wf p) in
     let plain = (read_of (view b).market (take n (drop at s))).plain in
     let act : move_of (view b) s at ≡ act_on (view b) (meant m) = ap (λ (x : Outcome ℕ). move_by x (view b) s at) reach ∙ ap (step_on (view b)) read in
-    let met_it : (told_in (index_in m) (view r.book)).answer ≡ 0 =
-    ap (λ (v : View). (told_in (index_in m) v).answer) (o.next_view ∙ ap (λ (x : Next). x.view) act)
+    let met_it : is_some (told_in (index_in m) (view r.book)) ≡ true =
+    ap (λ (v : View). is_some (told_in (index_in m) v)) (o.next_view ∙ ap (λ (x : Next). x.view) act)
     ∙ met (view b) m (sym (ap (λ (x : Next). x.answer) act) ∙ sym o.answer ∙ zero) in
-    line_fields_good (view r.book).market (told r.book m) m plain (sequence_of place) second out type (ap (λ (k : Market). fault_in k m plain) moves.market ∙ read_is_good (view b).market (take n (drop at s)) m read)
-    ∙ line_good (told r.book m) second (rendered (columns_of (told r.book m) m plain (sequence_of place) second)) out met_it day
+    line_good (view r.book).market (told r.book m) m plain (sequence_of place) second out type (ap (λ (k : Market). fault_in k m plain) moves.market ∙ read_is_good (view b).market (take n (drop at s)) m read) met_it day
     ∙ ap (λ (t : List ℕ). laid t out) (sym (passed_done (view b).market (view r.book) (take n (drop at s)) r.answer place second zero ∙ ap (λ (x : Outcome Message). done_text (view r.book) x plain place second) read ∙ line_prints (view r.book) m plain place second type))

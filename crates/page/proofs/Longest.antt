@@ -102,7 +102,7 @@ row_at_most buy scale row s p n k = go row.used
 
 -- ---- these bounds are met
 abbrev widest : Listing
-widest = record { answer = 0; name = replicate name_bytes 65; len = name_bytes; scale = most_scale }
+widest = record { name = replicate name_bytes 65; len = name_bytes; scale = most_scale }
 
 -- the largest numbers of 32 and of 64 bits
 abbrev most : ℕ

@@ -8,12 +8,12 @@ use Rattle.markets.specs.declared.Market.{Market}
 use Rattle.wire.specs.Fields.{first_bad, fault_of}
 use Rattle.columns.specs.Text.{fixed, digits_by, digits, priced, timed}
 use Rattle.columns.specs.Columns.{rendered}
-use Rattle.page.specs.Columns.{columns_of}
+use Rattle.page.specs.Columns.{listing_of, columns_of}
 use Rattle.page.specs.Marked.{ascii, abc, add, firm, line_l, sequence_l, second_l}
 use Rattle.page.specs.Printing.{has_no_line, laid, line_by, line_of}
 use Rattle.page.proofs.Cases.{laid_fits}
 
-line_l_lem : rendered (columns_of abc add firm sequence_l second_l) ≡ line_l
+line_l_lem : rendered (columns_of (listing_of abc) add firm sequence_l second_l) ≡ line_l
 unfolding rendered fixed digits_by digits priced timed
 line_l_lem = refl
 

@@ -1,7 +1,7 @@
 -- Texts laid by notes: none yet, and one message more; and where a walk goes on behind the messages that have theirs.
 use Rattle.std.proofs.Common.{◌≡◌, ℕ, suc, ◌+◌, ◌-◌, ◌<◌, ◌≤◌, List, [], ◌∷◌, ◌++◌, length, get_or, take, drop, sym, refl, ap, ◌∙◌, subst, append_assoc, append-nil, add-zero, zero-add, arith, length-append, take-append-drop, length-take-le, le-ltb}
 use lib.Seq.{append_snoc, get_or-append_seam}
-use Rattle.wire.specs.Outcome.{Outcome, done, refused}
+use Rattle.wire.specs.Outcome.{Outcome, done}
 use Rattle.wire.specs.Reading.{reach_of, read_of}
 use Rattle.wire.proofs.Cases.{reached}
 use Rattle.markets.specs.declared.Market.{Market}
@@ -17,7 +17,9 @@ use Rattle.book.proofs.SameNames.{told_step, told_steps}
 use Rattle.columns.specs.Held.{room}
 use Rattle.page.specs.Printing.{Appends}
 use Rattle.page.specs.Printout.{passed_text, next_place}
-use Rattle.page.specs.Laying.{Sheet, more, lay_from, Passes, none_yet, one_more, Tells, Answered, Front, size_or0, LaysOne, sheet_of, SoFar, RunsSome}
+use Rattle.page.specs.Laying.{Sheet, more, lay_from, Passes, none_yet, one_more, Tells, Answered, Front, LaysOne, sheet_of, SoFar, RunsSome}
+use borrow.Rule.Slice.PartMut.{put_mid}
+use Rattle.page.proofs.Cases.{appends_behind}
 use Rattle.page.proofs.Sheets.{front_more}
 
 -- ---- messages passed one behind the other: a walk of them and some more goes on behind them. Of any walk that counts its messages down
@@ -42,14 +44,6 @@ pub passes_within : {s : List ℕ} {from : ℕ} {ms : List (List ℕ)} {here : �
 passes_within none_yet h = absurd (omega (arith, h))
 passes_within {s = s} (one_more {ms} {here} {n} p e) h = move_within s here n e
 
--- ---- the message at a position: it has bytes, or there is none
-pub sized : (x : Outcome ℕ) → (size_or0 x ≡ 0 → ⊥) → x ≡ done (size_or0 x)
-sized (done n) h = refl
-sized (refused a) h = absurd (h refl)
-
-pub unsized : (s : List ℕ) (at : ℕ) → size_or0 (reach_of (drop at s)) ≡ 0 → (n : ℕ) → reach_of (drop at s) ≡ done n → ⊥
-unsized s at h n e = omega (arith, (reached (drop at s) n e).least, sym (ap size_or0 e) ∙ h)
-
 -- ---- the run over as many messages as there are notes
 pub runs_some : (b : Book) (s : List ℕ) (from most : ℕ) (before : List ℕ) (r : Noted) (after : List ℕ) → most ≡ length before → Notes b s from before r after → RunsSome b s from most r
 runs_some b s from most before r after e w = rw e (record { at = w.at; market = w.market; kept = w.kept; wf = λ x. (w.obeys x).wf; next_view = λ x. (w.obeys x).next_view })
@@ -57,6 +51,11 @@ runs_some b s from most before r after e w = rw e (record { at = w.at; market = 
 -- ---- nothing laid
 pub lays_nothing : (at : ℕ) (before : List ℕ) → Appends [] at before at before
 lays_nothing at before = record { count = sym (add-zero at); out = sym (ap (λ (k : ℕ). take at before ++ [] ++ drop k before) (add-zero at) ∙ ap (λ (l : List ℕ). l ++ drop at before) (append-nil (take at before)) ∙ take-append-drop at before) }
+
+-- ---- a text laid to the start of what follows the first bytes is behind them
+pub lays_behind : {market : Market} {names : Symbols} {message : List ℕ} {answer place second n : ℕ} {before : List ℕ} {r : ℕ} {after : List ℕ}
+    → LaysOne market names message answer place second 0 (take (length before - n) (drop n before)) r after → LaysOne market names message answer place second n before (n + r) (put_mid n (length before - n) before after)
+lays_behind o = record { text = o.text; short = o.short; appends = appends_behind o.appends; told = o.told }
 
 -- ---- none yet
 module _ (market : Market) (names : Symbols) (s : List ℕ) (from : ℕ) (notes : List ℕ) (place second : ℕ) (before : List ℕ) (filled : ℕ) where

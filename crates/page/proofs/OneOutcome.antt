@@ -1,4 +1,5 @@
 -- The promises leave one outcome: an answer is known from its number, value and offset, and a laying is one equation for each thing that it hands back.
+use Rattle.std.specs.Prelude.{Result, Ok, Err}
 use Rattle.std.proofs.Common.{◌≡◌, ℕ, Bool, true, false, cond, eqb, ltb, List, sym, refl, ap, ◌∙◌, ltb-false, ltb-true}
 use Rattle.wire.specs.Outcome.{Outcome, done, refused}
 use Rattle.wire.specs.Writing.{Write}
@@ -10,36 +11,36 @@ use Rattle.page.specs.Printout.{closing}
 use Rattle.page.specs.Levels.{levels_text}
 use Rattle.page.specs.Laying.{Lays}
 use Rattle.page.specs.declared.laying.Laid.{Laid}
-use Rattle.page.specs.declared.Printed.{Printed}
+use Rattle.page.specs.declared.LineError.{LineError}
 
 -- an answer again, from its number, value and offset
-printed_from : Outcome ℕ → ℕ → Printed
-printed_from (done n) offset = Printed.Bytes n
+printed_from : Outcome ℕ → ℕ → Result ℕ LineError
+printed_from (done n) offset = Ok n
 printed_from (refused k) offset =
-    cond (eqb k 3) Printed.BadType (cond (eqb k 4) (Printed.BadField offset) (cond (eqb k 5) Printed.NoSymbol (cond (eqb k 14) Printed.BadSecond Printed.NoRoom)))
+    Err (cond (eqb k 3) LineError.BadType (cond (eqb k 4) (LineError.BadField offset) (cond (eqb k 5) LineError.NoSymbol (cond (eqb k 14) LineError.BadSecond LineError.NoRoom))))
 
-printed_again : (p : Printed) → printed_from (printed_as p).outcome (printed_as p).offset ≡ p
+printed_again : (p : Result ℕ LineError) → printed_from (printed_as p).outcome (printed_as p).offset ≡ p
 unfolding printed_from
-printed_again (Printed.Bytes n) = refl
-printed_again Printed.BadType = refl
-printed_again (Printed.BadField n) = refl
-printed_again Printed.NoSymbol = refl
-printed_again Printed.BadSecond = refl
-printed_again Printed.NoRoom = refl
+printed_again (Ok n) = refl
+printed_again (Err LineError.BadType) = refl
+printed_again (Err (LineError.BadField n)) = refl
+printed_again (Err LineError.NoSymbol) = refl
+printed_again (Err LineError.BadSecond) = refl
+printed_again (Err LineError.NoRoom) = refl
 
-same_printed : (a b : Printed) (x y : List ℕ) → printed a x ≡ printed b y → (a ≡ b) × (x ≡ y)
+same_printed : (a b : Result ℕ LineError) (x y : List ℕ) → printed a x ≡ printed b y → (a ≡ b) × (x ≡ y)
 same_printed a b x y e =
     (sym (printed_again a) ∙ ap (λ (w : Write). printed_from w.outcome w.offset) e ∙ printed_again b, ap (λ (w : Write). w.out) e)
 
 -- two results that meet the promise of a call on the same input are equal, buffers included
 module _ (b : Book) (out x y : List ℕ) where
-  pub one_line : (m : Message) (plain : List ℕ) (sequence second : ℕ) (p q : Printed) → printed p x ≡ line_of (view b).market (told b m) m plain sequence second out → printed q y ≡ line_of (view b).market (told b m) m plain sequence second out → (p ≡ q) × (x ≡ y)
+  pub one_line : (m : Message) (plain : List ℕ) (sequence second : ℕ) (p q : Result ℕ LineError) → printed p x ≡ line_of (view b).market (told b m) m plain sequence second out → printed q y ≡ line_of (view b).market (told b m) m plain sequence second out → (p ≡ q) × (x ≡ y)
   one_line m plain sequence second p q e f = same_printed p q x y (e ∙ sym f)
 
-  pub one_end : (index answer : ℕ) (p q : Printed) → printed p x ≡ laid (closing (view b) index answer) out → printed q y ≡ laid (closing (view b) index answer) out → (p ≡ q) × (x ≡ y)
+  pub one_end : (index answer : ℕ) (p q : Result ℕ LineError) → printed p x ≡ laid (closing (view b) index answer) out → printed q y ≡ laid (closing (view b) index answer) out → (p ≡ q) × (x ≡ y)
   one_end index answer p q e f = same_printed p q x y (e ∙ sym f)
 
-  pub one_levels : (index : ℕ) (p q : Printed) → printed p x ≡ laid (levels_text (view b) index) out → printed q y ≡ laid (levels_text (view b) index) out → (p ≡ q) × (x ≡ y)
+  pub one_levels : (index : ℕ) (p q : Result ℕ LineError) → printed p x ≡ laid (levels_text (view b) index) out → printed q y ≡ laid (levels_text (view b) index) out → (p ≡ q) × (x ≡ y)
   one_levels index p q e f = same_printed p q x y (e ∙ sym f)
 
   -- of a laying the states have equal views, as those of `apply` and `run`

@@ -1,12 +1,18 @@
 -- A line is a list of columns (document 01, "The TAQ page"; source 003 has the fields).
-use Rattle.std.specs.Prelude.{ℕ, List, [], ◌∷◌, ◌++◌, take}
+use Rattle.std.specs.Prelude.{ℕ, List, [], ◌∷◌, ◌++◌, take, replicate, Option, Some, None}
 use Rattle.columns.specs.Columns.{Column, number, price, clock, bytes, text}
+use Rattle.symbols.specs.State.{name_bytes}
 use Rattle.symbols.specs.declared.registering.Listing.{Listing}
 use Rattle.wire.specs.declared.Head.{Head}
 use Rattle.wire.specs.declared.Message.{Message}
 use Rattle.wire.specs.declared.Message.TheVariants.{Add, Modify, Delete, Execute, Replace, Imbalance, NonDisplayed, Cross, TradeCancel, CrossCorrection, Retail, Clear, Status}
 
 -- ---- the columns of each type
+
+-- what is told of a symbol, and of one that is not registered no name and scale 0
+abbrev pub listing_of : Option Listing → Listing
+listing_of (Some s) = s
+listing_of None = record { name = replicate name_bytes 0; len = 0; scale = 0 }
 
 -- the name as it is kept
 abbrev pub name_of : Listing → List ℕ

@@ -1,6 +1,6 @@
 -- Laying the texts of messages one behind the other, into a buffer of some size: until the walk stops, or the next text might not fit.
 use Rattle.std.specs.Prelude.{◌≡◌, ℕ, ◌+◌, ◌-◌, ◌<◌, ◌≤◌, cond, List, [], ◌∷◌, ◌++◌, length, take, drop, ◌≢◌, nat_lt}
-use Rattle.wire.specs.Outcome.{Outcome, done, refused}
+use Rattle.wire.specs.Outcome.{done}
 use Rattle.wire.specs.Reading.{reach_of}
 use Rattle.markets.specs.declared.Market.{Market}
 use Rattle.symbols.specs.State.{itself, found_in, entries}
@@ -82,10 +82,6 @@ Tells names v = (index : ℕ) → told_of (found_in itself index (entries names)
 pub record Answered (v : View) (ms : List (List ℕ)) (notes : List ℕ) : Type 0 where
   pub rest : List ℕ
   pub are : notes ≡ answers_of v ms ++ rest
-
-abbrev pub size_or0 : Outcome ℕ → ℕ
-size_or0 (done n) = n
-size_or0 (refused a) = 0
 
 -- the buffer: what stands at its front, and behind that what stood there before
 pub record Front (before text : List ℕ) (n : ℕ) (out : List ℕ) : Type 0 where

@@ -8,6 +8,7 @@ use Rattle.book.specs.Depth.{depth_of}
 use Rattle.book.specs.declared.depth.Depth.{Depth}
 use Rattle.columns.specs.Columns.{Column, number, price, bytes, rendered}
 use Rattle.columns.specs.Held.{room}
+use Rattle.page.specs.Columns.{listing_of}
 use Rattle.page.specs.Printout.{letter}
 
 abbrev pub letter_d : Column
@@ -42,7 +43,7 @@ depth_text scale d = depth_lines (d.answer == 0) scale d
 
 -- of the symbol with this index
 unfoldable pub levels_text : View → ℕ → List ℕ
-levels_text v index = depth_text (told_in index v).scale (depth_of index v)
+levels_text v index = depth_text (listing_of (told_in index v)).scale (depth_of index v)
 
 -- room for the rows of a side, and for those of both, at any scale that a byte can hold
 abbrev pub side_room : ℕ

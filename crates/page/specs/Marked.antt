@@ -1,5 +1,5 @@
 -- Document 01's marked case L: what is given, and the line.
-use Rattle.std.specs.Prelude.{ℕ, zero, suc, ◌+◌, List, [], ◌∷◌}
+use Rattle.std.specs.Prelude.{ℕ, zero, suc, ◌+◌, List, [], ◌∷◌, Option, Some}
 use Prim.Native.Char.{code}
 use Prim.Native.String.{String, len, char_at}
 use Rattle.wire.specs.Bytes.{padded_plain}
@@ -16,9 +16,9 @@ ascii_from (suc n) i s = code (char_at s i) ∷ ascii_from n (i + 1) s
 abbrev pub ascii : String → List ℕ
 ascii s = ascii_from (len s) 0 s
 
--- index 7, scale 4
-abbrev pub abc : Listing
-abc = record { answer = 0; name = 65 ∷ 66 ∷ 67 ∷ 0 ∷ 0 ∷ 0 ∷ 0 ∷ 0 ∷ 0 ∷ 0 ∷ 0 ∷ []; len = 3; scale = 4 }
+-- what is told of the symbol: index 7, scale 4
+abbrev pub abc : Option Listing
+abc = Some (record { name = 65 ∷ 66 ∷ 67 ∷ 0 ∷ 0 ∷ 0 ∷ 0 ∷ 0 ∷ 0 ∷ 0 ∷ 0 ∷ []; len = 3; scale = 4 })
 
 -- #3: add 1001 buy 1234500 x 200, at 125 nanoseconds
 abbrev pub add : Message

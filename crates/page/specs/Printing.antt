@@ -1,10 +1,9 @@
 -- Printing a line: the type (3), the message's fields (4), the symbol (5), the second of the day (14) and the room (15), in the order of document 01's checks.
-use Rattle.std.specs.Prelude.{◌≡◌, ℕ, ◌+◌, Bool, true, false, cond, not, List, ◌++◌, length, take, drop, ◌==◌, nat_lt}
+use Rattle.std.specs.Prelude.{◌≡◌, ℕ, ◌+◌, Bool, true, false, cond, not, List, ◌++◌, length, take, drop, ◌==◌, nat_lt, Result, Ok, Err, Option, Some, None, is_some}
 use Rattle.wire.specs.Outcome.{Answered, done, refused, only, bad_at}
 use Rattle.wire.specs.Writing.{Write, leaving, refuse, refuse_field}
 use Rattle.wire.specs.Message.{type_of, index_in, fault_in}
 use Rattle.wire.specs.FirstBad.{FirstBadOf}
-use Rattle.wire.specs.declared.Fault.{Fault}
 use Rattle.wire.specs.declared.Message.{Message}
 use Rattle.markets.specs.declared.Market.{Market}
 use Rattle.book.specs.State.{view}
@@ -12,20 +11,20 @@ use Rattle.book.specs.Registering.{told_in}
 use Rattle.book.specs.declared.Book.{Book}
 use Rattle.symbols.specs.declared.registering.Listing.{Listing}
 use Rattle.columns.specs.Columns.{rendered}
-use Rattle.page.specs.Columns.{columns_of}
-use Rattle.page.specs.declared.Printed.{Printed}
+use Rattle.page.specs.Columns.{listing_of, columns_of}
+use Rattle.page.specs.declared.LineError.{LineError}
 
 -- document 01's number and value of each case, and the offset
-abbrev pub printed_as : Printed → Answered ℕ
-printed_as (Printed.Bytes n) = only (done n)
-printed_as Printed.BadType = only (refused 3)
-printed_as (Printed.BadField n) = bad_at n
-printed_as Printed.NoSymbol = only (refused 5)
-printed_as Printed.BadSecond = only (refused 14)
-printed_as Printed.NoRoom = only (refused 15)
+abbrev pub printed_as : Result ℕ LineError → Answered ℕ
+printed_as (Ok n) = only (done n)
+printed_as (Err LineError.BadType) = only (refused 3)
+printed_as (Err (LineError.BadField n)) = bad_at n
+printed_as (Err LineError.NoSymbol) = only (refused 5)
+printed_as (Err LineError.BadSecond) = only (refused 14)
+printed_as (Err LineError.NoRoom) = only (refused 15)
 
 -- what printing answers, and what it leaves in the buffer
-abbrev pub printed : Printed → List ℕ → Write
+abbrev pub printed : Result ℕ LineError → List ℕ → Write
 printed p out = leaving (printed_as p) out
 
 -- only an add (100) and a cross (111) have a line
@@ -49,17 +48,17 @@ pub record Appends (line : List ℕ) (at : ℕ) (before : List ℕ) (r : ℕ) (a
   pub out : after ≡ take at before ++ line ++ drop (at + length line) before
 
 -- one clause for each check: has the type no line, which field is bad, is the symbol known, the second past the day?
-unfoldable pub line_by : Bool → Fault → Bool → Bool → List ℕ → List ℕ → Write
+unfoldable pub line_by : Bool → Option ℕ → Bool → Bool → List ℕ → List ℕ → Write
 line_by true bad known late line out = refuse 3 out
-line_by false (Fault.At n) known late line out = refuse_field n out
-line_by false Fault.Nothing false late line out = refuse 5 out
-line_by false Fault.Nothing true true line out = refuse 14 out
-line_by false Fault.Nothing true false line out = laid line out
+line_by false (Some n) known late line out = refuse_field n out
+line_by false None false late line out = refuse 5 out
+line_by false None true true line out = refuse 14 out
+line_by false None true false line out = laid line out
 
 -- the line of a message of a market at the start of out, by what is told of its symbol
-unfoldable pub line_of : Market → Listing → Message → List ℕ → ℕ → ℕ → List ℕ → Write
+unfoldable pub line_of : Market → Option Listing → Message → List ℕ → ℕ → ℕ → List ℕ → Write
 line_of market s m plain sequence second out =
-    line_by (has_no_line (type_of m)) (fault_in market m plain) (s.answer == 0) (nat_lt last_second second) (rendered (columns_of s m plain sequence second)) out
+    line_by (has_no_line (type_of m)) (fault_in market m plain) (is_some s) (nat_lt last_second second) (rendered (columns_of (listing_of s) m plain sequence second)) out
 
 -- a message that has a line, and its first bad field at n
 pub record FirstBadOn (market : Market) (m : Message) (plain : List ℕ) (n : ℕ) : Type 0 where
@@ -67,5 +66,5 @@ pub record FirstBadOn (market : Market) (m : Message) (plain : List ℕ) (n : �
   pub first : FirstBadOf market m plain n
 
 -- what a book tells of a message's symbol
-abbrev pub told : Book → Message → Listing
+abbrev pub told : Book → Message → Option Listing
 told b m = told_in (index_in m) (view b)

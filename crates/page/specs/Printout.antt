@@ -1,5 +1,5 @@
 -- What is printed of a file of messages: document 01, "What the bureau's reader does".
-use Rattle.std.specs.Prelude.{ℕ, ◌+◌, ◌%◌, Bool, true, false, cond, List, [], ◌∷◌, ◌++◌, ◌==◌}
+use Rattle.std.specs.Prelude.{ℕ, ◌+◌, ◌%◌, Bool, true, false, cond, List, [], ◌∷◌, ◌++◌, ◌==◌, Option, Some, None}
 use Rattle.wire.specs.Outcome.{Outcome, done, refused}
 use Rattle.wire.specs.Reading.{read_of}
 use Rattle.wire.specs.Message.{type_of, index_in}
@@ -13,7 +13,7 @@ use Rattle.book.specs.Quote.{quote_of}
 use Rattle.book.specs.Walk.{Walk, walk_of, steps_of}
 use Rattle.book.specs.declared.quote.Quote.{Quote}
 use Rattle.columns.specs.Columns.{Column, number, price, bytes, rendered}
-use Rattle.page.specs.Columns.{columns_of}
+use Rattle.page.specs.Columns.{listing_of, columns_of}
 use Rattle.page.specs.Printing.{has_no_line}
 
 -- a letter that tells what a line is
@@ -54,7 +54,7 @@ line_if false line = line
 
 abbrev pub done_text : View → Outcome Message → List ℕ → ℕ → ℕ → List ℕ
 done_text v (refused a) plain place second = []
-done_text v (done m) plain place second = line_if (has_no_line (type_of m)) (rendered (columns_of (told_in (index_in m) v) m plain (sequence_of place) second))
+done_text v (done m) plain place second = line_if (has_no_line (type_of m)) (rendered (columns_of (listing_of (told_in (index_in m) v)) m plain (sequence_of place) second))
 
 unfoldable pub passed_text : Market → Next → List ℕ → ℕ → ℕ → List ℕ
 passed_text market x m place second = cond (x.answer == 0) (done_text x.view (read_of market m).outcome (read_of market m).plain place second) (rendered (refusal x.answer (read_of market m).offset place))
@@ -79,9 +79,9 @@ unfoldable pub end_text : ℕ → List ℕ
 end_text answer = rendered (letter_e ∷ number answer ∷ [])
 
 -- price and size, or two empty fields
-abbrev pub level_columns : ℕ → Level → List Column
-level_columns scale Level.Empty = bytes [] ∷ bytes [] ∷ []
-level_columns scale (Level.Best p n) = price scale p ∷ number n ∷ []
+abbrev pub level_columns : ℕ → Option Level → List Column
+level_columns scale None = bytes [] ∷ bytes [] ∷ []
+level_columns scale (Some x) = price scale x.price ∷ number x.size ∷ []
 
 -- bid price, bid size, ask price, ask size, or the number that refuses the quote
 abbrev pub quote_columns : Bool → ℕ → Quote → List Column
@@ -94,7 +94,7 @@ quote_text scale x = rendered (letter_q ∷ quote_columns (x.answer == 0) scale 
 
 -- the answer that stopped the walk, and the quote of the last state
 unfoldable pub closing : View → ℕ → ℕ → List ℕ
-closing v index answer = end_text answer ++ quote_text (told_in index v).scale (quote_of index v)
+closing v index answer = end_text answer ++ quote_text (listing_of (told_in index v)).scale (quote_of index v)
 
 -- ---- a whole file, walked from a state in which the symbol with that index is registered
 unfoldable pub printed_of : ℕ → ℕ → View → Walk → List ℕ

@@ -1,20 +1,17 @@
 // Laying what is printed into a lent buffer: the texts of the messages of a stream one behind the other, and the end.
-ghost use Rattle.std.specs.Prelude.{◌≡◌, ◌≤◌, length, drop};
-ghost use Rattle.wire.specs.Reading.{reach_of};
+ghost use Rattle.std.specs.Prelude.{◌≡◌, ◌≤◌, length};
 ghost use Rattle.book.specs.State.{view};
 ghost use Rattle.columns.specs.Held.{room};
 ghost use Rattle.page.specs.Printing.{printed, laid};
 ghost use Rattle.page.specs.Printout.{closing};
-ghost use Rattle.page.specs.Laying.{size_or0, Lays, LaysNoted, RunsSome};
+ghost use Rattle.page.specs.Laying.{Lays, LaysNoted, RunsSome};
 
-use crate::Printed;
+use crate::LineError;
+use crate::lines::listing_of;
 use crate::printing::{LAST_SECOND, emit};
-use crate::texts::{end_lines, lay_passed};
+use crate::texts::{Setting, end_lines};
 use book::{Book, Noted};
 use columns::ROOM;
-use markets::Market;
-use symbols::Symbols;
-use wire::Reach;
 
 // As many answers are noted at a time: a part of 64 KiB has seldom more messages.
 const NOTES: usize = 4096;
@@ -32,7 +29,7 @@ struct Texts {
 }
 
 // After the messages laid: the state, where the next message starts, the place of the last one, how many bytes are laid, and why no more: the answer that stopped
-// the walk, or 15 where the next text might not fit.
+// the walk, or 15 where the next text might not fit. It stays document 01's number, as that of a run does: `Lays` speaks of it, and `laying_answers` tells which it can be.
 #[derive(Clone, Copy)]
 pub struct Laid {
     pub book: Book,
@@ -65,15 +62,20 @@ pub fn lay(book: Book, stream: &[u8], at: usize, place: u64, second: u32, out: &
     let mut here = at;
     let mut p = place;
     let mut n: usize = 0;
+    // No `for`: each run says whether there is more.
     loop {
         let names = b.names();
+        let setting = Setting {
+            market,
+            names,
+            second,
+        };
         let r = b.run_noted(stream, here, notes);
-        let t = lay_noted(market, names, stream, here, notes, p, second, out, n);
+        let t = setting.lay_noted(stream, here, notes, p, out, n);
         if t.laid < r.count {
             let q = run_some(b, stream, here, notes, t.laid);
-            let some = q.book;
             return Laid {
-                book: some,
+                book: q.book,
                 at: q.at,
                 place: t.place,
                 count: t.count,
@@ -104,81 +106,49 @@ fn run_some(b: Book, stream: &[u8], at: usize, notes: &mut [u8], most: usize) ->
     b.run_noted(stream, at, &mut notes[..most])
 }
 
-// Lays the texts of the messages of a stream whose answers are noted, each behind the one before, from the first `filled` bytes of out on: as long as there is a note, room and a message.
-fn lay_noted(
-    market: Market,
-    names: Symbols,
-    stream: &[u8],
-    at: usize,
-    notes: &[u8],
-    place: u64,
-    second: u32,
-    out: &mut [u8],
-    filled: usize,
-) -> Texts
-    requires { filled ≤ length out.old }
-    ensures { LaysNoted market names stream.now at notes.now place second out.old filled result out.new }
-{
-    let mut here = at;
-    let mut p = place;
-    let mut n = filled;
-    let mut j: usize = 0;
-    loop {
-        if notes.len() <= j {
-            return texts_of(here, p, n, j);
+impl Setting {
+    // Lays the texts of the messages of a stream whose answers are noted, each behind the one before, from the first `filled` bytes of out on: as long as there is a note, room and a message.
+    fn lay_noted(
+        &self,
+        stream: &[u8],
+        at: usize,
+        notes: &[u8],
+        place: u64,
+        out: &mut [u8],
+        filled: usize,
+    ) -> Texts
+        requires { filled ≤ length out.old }
+        ensures { LaysNoted self.now.market self.now.names stream.now at notes.now place self.now.second out.old filled result out.new }
+    {
+        let mut t = Texts {
+            at,
+            place,
+            count: filled,
+            laid: 0,
+        };
+        for answer in notes {
+            if out.len() - t.count < ROOM {
+                return t;
+            }
+            let Ok(size) = wire::reach_at(stream, t.at) else {
+                return t;
+            };
+            let end = t.at + size;
+            t.place = t.place.wrapping_add(1);
+            t.count += self.lay_passed(&stream[t.at..end], *answer, t.place, &mut out[t.count..]);
+            t.at = end;
+            t.laid += 1;
         }
-        if out.len() - n < ROOM {
-            return texts_of(here, p, n, j);
-        }
-        let size = size_at(stream, here);
-        if size == 0 {
-            return texts_of(here, p, n, j);
-        }
-        let end = here + size;
-        p = std::num::wrapping_add_u64(p, 1);
-        n = lay_passed(
-            market,
-            names,
-            &stream[here..end],
-            notes[j],
-            p,
-            second,
-            out,
-            n,
-        );
-        here = end;
-        j += 1;
-    }
-}
-
-fn texts_of(at: usize, place: u64, count: usize, laid: usize) -> Texts
-    ensures { result ≡ record { at = at; place = place; count = count; laid = laid } }
-{
-    Texts {
-        at,
-        place,
-        count,
-        laid,
-    }
-}
-
-// How many bytes the message at a position has, or 0 where none is whole.
-fn size_at(s: &[u8], at: usize) -> usize
-    ensures { result ≡ size_or0 (reach_of (drop at s.now)) }
-{
-    let reach = wire::reach_at(s, at);
-    match reach {
-        Reach::Size(size) => size,
-        Reach::Short => 0,
-        Reach::Small => 0,
+        t
     }
 }
 
 // `E` with the answer that stopped the walk, and the quote of the symbol with this index.
-pub fn lay_end(book: Book, index: u32, answer: u8, out: &mut [u8]) -> Printed
+pub fn lay_end(book: Book, index: u32, answer: u8, out: &mut [u8]) -> Result<usize, LineError>
     ensures out_after { printed result out.new ≡ laid (closing (view book) index answer) out.old }
     ensures fits { length (closing (view book) index answer) ≤ room }
 {
-    let s = book.symbol(index);
-    emit(end_lines(answer, s.scale, book.quote(index)), out)
+    let s = listing_of(book.symbol(index));
+    let text = end_lines(answer, s.scale, book.quote(index));
+    emit(text.bytes(), out)
 }

@@ -9,19 +9,19 @@ mod lines;
 mod printing;
 mod texts;
 
-ghost use Rattle.std.specs.Prelude.{◌≡◌};
+ghost use Rattle.std.specs.Prelude.{Err};
+ghost use Rattle.std.proofs.Common.{rules};
 ghost use Rattle.wire.specs.Outcome.{number_of};
-ghost use Rattle.wire.specs.Writing.{count_of};
 ghost use Rattle.page.specs.Printing.{printed_as};
 
 pub use laying::{Laid, lay, lay_end};
 pub use levels::lay_levels;
 pub use printing::line;
+use wire::Refusal;
 
-// What printing a line answers: how many bytes, or why none. A bad field comes with the offset of the first one.
-#[derive(Clone, Copy)]
-pub enum Printed {
-    Bytes(usize),
+// Why nothing is printed. A bad field comes with the offset of the first one.
+#[derive(Clone, Copy, PartialEq, Eq)]
+pub enum LineError {
     BadType,
     BadField(usize),
     NoSymbol,
@@ -29,44 +29,29 @@ pub enum Printed {
     NoRoom,
 }
 
-// Document 01's number of what printing answered.
-pub fn number_of_line(p: Printed) -> u8
-    ensures { result ≡ number_of (printed_as p).outcome }
-{
-    match p {
-        Printed::Bytes(_) => 0,
-        Printed::BadType => 3,
-        Printed::BadField(_) => 4,
-        Printed::NoSymbol => 5,
-        Printed::BadSecond => 14,
-        Printed::NoRoom => 15,
-    }
-}
+impl Refusal for LineError {
+    ghost number = { λ e. number_of (printed_as (Err e)).outcome };
 
-// How many bytes were printed: none when refused.
-pub fn count_of_line(p: Printed) -> usize
-    ensures { result ≡ count_of (printed_as p).outcome }
-{
-    match p {
-        Printed::Bytes(n) => n,
-        Printed::BadType => 0,
-        Printed::BadField(_) => 0,
-        Printed::NoSymbol => 0,
-        Printed::BadSecond => 0,
-        Printed::NoRoom => 0,
-    }
-}
+    ghost offset = { λ e. (printed_as (Err e)).offset };
 
-// The offset of the first bad field, with a 4; with every other number 0.
-pub fn offset_of_line(p: Printed) -> usize
-    ensures { result ≡ (printed_as p).offset }
-{
-    match p {
-        Printed::Bytes(_) => 0,
-        Printed::BadType => 0,
-        Printed::BadField(n) => n,
-        Printed::NoSymbol => 0,
-        Printed::BadSecond => 0,
-        Printed::NoRoom => 0,
+    ghost refuses = { Prim.search rules };
+
+    ghost no_field = { Prim.search rules };
+
+    fn number(self) -> u8 {
+        match self {
+            LineError::BadType => 3,
+            LineError::BadField(_) => 4,
+            LineError::NoSymbol => 5,
+            LineError::BadSecond => 14,
+            LineError::NoRoom => 15,
+        }
+    }
+
+    fn offset(self) -> usize {
+        match self {
+            LineError::BadField(offset) => offset,
+            _ => 0,
+        }
     }
 }

@@ -1,5 +1,4 @@
 -- Each turn passes messages that stand behind those passed before, so in the end all of the file was passed once, and the texts laid are the printout.
-use mathlib.Core.Bool.{Bool, true, false, true≢false}
 use mathlib.Core.List.{List, [], ◌++◌, append_assoc, append-nil, flatten}
 use mathlib.Core.Logic.{◌⊎◌, inl, ⊎_elim, ◌≢◌}
 use mathlib.Core.Path.{◌≡◌, refl, sym, ap, ◌∙◌, subst}
@@ -15,14 +14,16 @@ use Rattle.book.specs.Walk.{Walk, AllComplete, walk_of, steps_of}
 use Rattle.book.proofs.Walking.{steps_join}
 use Rattle.page.specs.Printout.{texts_of, closing, printed_of}
 use Rattle.page.proofs.Passing.{place_after, places_join, texts_join, flatten_join, complete_join, lays_passes}
-use Rattle.parts.specs.Parts.{part_room, walk_parts}
+use Rattle.parts.specs.Parts.{walk_parts}
 use Rattle.parts.proofs.Walks.{walk_stops, walk_behind}
 use Rattle.parts.proofs.Cuts.{small_ends_the_file, cuts_do_not_matter}
 use Rattle.painterend.specs.Program.{index, second, start_view, printout, Starts}
 use Rattle.painterend.specs.Turn as turn
 use Rattle.painterend.specs.Turn.{left, awaiting, read_behind, Failed, Ready, Interrupted, LaysPart, Ends, Turns, Turn}
 use Rattle.painterend.specs.Course.{laid_by, Course, begins, interrupted, lays_part, ends, fails, Ran}
+use Rattle.painterend.specs.declared.turns.Progress.{Progress}
 use Rattle.painterend.specs.declared.turns.State.{State}
+use Rattle.painterend.proofs.Apart.{reading_done, reading_failed, done_failed}
 
 -- ---- so far: the messages passed, then the bytes that are left, are what was read; the view, the place and the texts are those of the messages passed
 pub record SoFar (file text : List ℕ) (s : State) (buffer : List ℕ) : Type 0 where
@@ -71,12 +72,12 @@ after_a_laying {file} {text} {before} {after} {out} {s} {r} f x =
       why = p.why;
     }
 
-pub so_far : {file text : List ℕ} {s : State} {buffer : List ℕ} → Course file text s buffer → s.goes_on ≡ true → SoFar file text s buffer
+pub so_far : {file text : List ℕ} {s : State} {buffer : List ℕ} → Course file text s buffer → s.progress ≡ Progress.Reading → SoFar file text s buffer
 so_far (begins {buffer = buffer} s) g = at_the_start buffer s
 so_far (interrupted p h x) g = after_an_interrupt (so_far p h) x
 so_far (lays_part p h x) g = after_a_laying (so_far p h) x
-so_far (ends p h n e) g = absurd (true≢false (sym g ∙ e.over))
-so_far (fails p f) g = absurd (true≢false (sym g ∙ f.over))
+so_far (ends p h n e) g = absurd (reading_done g e.over)
+so_far (fails p f) g = absurd (reading_failed g f.over)
 
 -- ---- the loop: up to a state there was a course
 pub record Reached (s : State) (buffer : List ℕ) : Type 0 where
@@ -84,29 +85,20 @@ pub record Reached (s : State) (buffer : List ℕ) : Type 0 where
   pub text : List ℕ
   pub course : Course file text s buffer
 
-pub reached_start : (b : Book) (s : State) (buffer out : List ℕ) → Starts b → s ≡ awaiting b 0 0 → length buffer ≡ part_room → length out ≡ part_room → (s.goes_on ≡ true → Ready s buffer out) × Reached s buffer
-reached_start b s buffer out x e part sheet = (
-  λ g. subst (λ (z : State). Ready z buffer out) (sym e)
-      (record { given = record { sound = x.wf; part = part; sheet = omega (arith, sheet) }; range = omega arith; within = omega arith; room_left = λ o. omega (arith, part); why = inl refl }),
+pub reached_start : (b : Book) (s : State) (buffer : List ℕ) → Starts b → s ≡ awaiting b 0 0 → (s.progress ≡ Progress.Reading → Ready s) × Reached s buffer
+reached_start b s buffer x e = (
+  λ g. subst Ready (sym e) (record { sound = x.wf; range = omega arith; within = omega arith; room_left = λ o. omega arith; why = inl refl }),
   subst (λ (z : State). Reached z buffer) (sym e) (record { file = []; text = []; course = begins x }),
 )
 
 module _ (s : State) (before : List ℕ) (t : State) (after out : List ℕ) (r : State) where
-  one_more : Reached s before → s.goes_on ≡ true → Turns s.laid (left s before) t after out → Reached t after
-  one_more x g (turn.interrupted y) = record { file = x.file; text = x.text; course = interrupted x.course g y }
-  one_more x g (turn.lays_part y) = record { file = x.file ++ read_behind (left s before) t after; text = x.text ++ laid_by t out; course = lays_part x.course g y }
-  one_more x g (turn.ends n y) = record { file = x.file; text = x.text ++ laid_by t out; course = ends x.course g n y }
+  turned : Reached s before → s.progress ≡ Progress.Reading → Turns s.laid (left s before) t after out → Reached t after
+  turned x g (turn.interrupted y) = record { file = x.file; text = x.text; course = interrupted x.course g y }
+  turned x g (turn.lays_part y) = record { file = x.file ++ read_behind (left s before) t after; text = x.text ++ laid_by t out; course = lays_part x.course g y }
+  turned x g (turn.ends n y) = record { file = x.file; text = x.text ++ laid_by t out; course = ends x.course g n y }
 
-  turned : Reached s before → s.goes_on ≡ true → Turn s.laid (left s before) t after out → (failed : Bool) → t.failed ≡ failed → Reached t after
-  turned x g y true e = record { file = x.file; text = x.text; course = fails x.course (y.fails e) }
-  turned x g y false e = one_more x g (y.turns e)
-
-  pub reached_turn : Reached s before → s.goes_on ≡ true → Turn s.laid (left s before) t after out → (r ≡ t) ⊎ Failed r → (r.goes_on ≡ true → Ready r after out) × Reached r after
-  reached_turn x g y w =
-      let z = turned x g y t.failed refl in (
-        λ h. ⊎_elim (λ e. subst (λ (q : State). Ready q after out) (sym e) (y.ready (sym (ap (λ (q : State). q.goes_on) e) ∙ h))) (λ f. absurd (true≢false (sym h ∙ f.over))) w,
-        ⊎_elim (λ e. subst (λ (q : State). Reached q after) (sym e) z) (λ f. record { file = z.file; text = z.text; course = fails z.course f }) w,
-      )
+  pub ready_again : Turn s.laid (left s before) t after out → (r ≡ t) ⊎ Failed r → r.progress ≡ Progress.Reading → Ready r
+  ready_again y w h = ⊎_elim (λ e. subst Ready (sym e) (y.ready (sym (ap (λ (q : State). q.progress) e) ∙ h))) (λ f. absurd (reading_failed h f.over)) w
 
 -- ---- the whole page: where a run came to its end and reported no error, what it laid is the printout of what it read
 -- at the end all of the file's messages are passed
@@ -127,12 +119,12 @@ at_the_end {file} {text} {before} {out} {s} {r} f n e =
     ∙ ap (λ (v : View). texts_of second start_view 0 f.passed ++ closing v index s.laid.answer) f.views
     ∙ sym (λ i. texts_of second start_view 0 (all.0 i) ++ closing (steps_of start_view (all.0 i)) index (all.1 i))
 
-pub whole_page : {file text : List ℕ} {r : State} {buffer : List ℕ} → Course file text r buffer → r.goes_on ≡ false → r.failed ≡ false → text ≡ printout file
-whole_page (begins s) g h = absurd (true≢false g)
-whole_page (interrupted p t x) g h = absurd (true≢false (sym (ap (λ (s : State). s.goes_on) x.same) ∙ g))
-whole_page (lays_part p t x) g h = absurd (true≢false (sym x.goes_on ∙ g))
-whole_page (ends p t n e) g h = at_the_end (so_far p t) n e
-whole_page (fails p f) g h = absurd (true≢false (sym f.failed ∙ h))
+pub whole_page : {file text : List ℕ} {r : State} {buffer : List ℕ} → Course file text r buffer → r.progress ≡ Progress.Done → text ≡ printout file
+whole_page (begins s) g = absurd (reading_done refl g)
+whole_page (interrupted p t x) g = absurd (reading_done (ap (λ (s : State). s.progress) x.same) g)
+whole_page (lays_part p t x) g = absurd (reading_done x.goes_on g)
+whole_page (ends p t n e) g = at_the_end (so_far p t) n e
+whole_page (fails p f) g = absurd (done_failed g f.over)
 
 pub reached_ran : (s : State) (buffer : List ℕ) → Reached s buffer → Ran s
 reached_ran s buffer x = record { file = x.file; text = x.text; buffer = buffer; course = x.course; page = whole_page x.course }

@@ -3,3 +3,4 @@ pub mod Courses
 pub mod Passed
 pub mod Printing
 pub mod Examples
+pub mod Apart

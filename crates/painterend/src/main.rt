@@ -6,39 +6,27 @@
 mod output;
 mod turns;
 
-ghost use Rattle.std.specs.Prelude.{◌≡◌, length};
-ghost use Rattle.parts.specs.Parts.{part_room};
 ghost use Rattle.painterend.specs.Program.{Starts};
 ghost use Rattle.painterend.specs.Course.{Ran, Prints};
 
 use book::Book;
 use markets::Market;
-use output::{fail, written};
+use output::{fail, reported, written};
 use std::env::{Env, FillError};
 use std::fs::{File, Files};
 use std::io;
 use std::io::{Eprint, Print, Read, Write};
-use turns::{INDEX, State, reading, turn};
+use turns::{Desk, INDEX, Progress, State};
 
 const SCALE: u8 = 4;
 
-// A part has at most 64 KiB, with the bytes that open it.
-const PART: usize = 65536;
-
-// As long as the system lets a name be.
+// As long as the system lets a name be. An array of that size takes it, since there is no heap.
 const NAME_ROOM: usize = 4096;
 
-// What the system calls a name that is too long, and bytes that are no text.
+// What the system calls a name that is too long, and bytes that are no text. These stay numbers: the kinds of std have other words, and what is printed may not change.
 const ENAMETOOLONG: i32 = 36;
 
 const EILSEQ: i32 = 84;
-
-// Room for a part, or for what is laid of one.
-fn part_room() -> [u8; PART]
-    ensures { part_room ≡ length result }
-{
-    [0; PART]
-}
 
 // A new state of the program's market, with its symbol.
 fn start() -> Book
@@ -49,21 +37,21 @@ fn start() -> Book
     r.book
 }
 
-// A proved loop has to end, and nothing says that a file does: the turns are counted down from a number that no run uses up.
+// A proved loop has to end, and nothing says that a file does: there are so many turns that no run uses them up.
 fn all_parts<R: Eprint, F: Read, P: Write>(rt: &R, file: &mut F, path: &str, paper: &mut P) -> State
     ensures ran { Ran result }
     ensures prints { Prints result (F.remaining file.old) (F.remaining file.new) (P.contents paper.old) (P.contents paper.new) }
 {
-    let mut space = part_room();
-    let buffer: &mut [u8] = &mut space;
-    let mut sheet = part_room();
-    let out: &mut [u8] = &mut sheet;
-    let mut s = reading(start(), 0, 0);
-    let mut turns = u64::MAX;
-    while turns > 0 && s.goes_on {
-        s = turn(rt, file, path, buffer, out, s);
-        s = written(rt, paper, out, s);
-        turns -= 1;
+    let mut desk = Desk::new();
+    let mut s = State::reading(start(), 0, 0);
+    for _ in 0..u64::MAX {
+        let Progress::Reading = s.progress else {
+            return s;
+        };
+        s = match desk.turn(file, s) {
+            Ok(r) => written(rt, paper, &desk.sheet, r),
+            Err(e) => reported(rt, path, e, s.laid),
+        };
     }
     s
 }
@@ -78,40 +66,31 @@ fn print<R: Files + Print + Eprint>(rt: &R, path: &str) {
     }
 }
 
-// How many words there are, with the program's own name.
-fn count_of_words<E: Env>(words: &E) -> usize {
-    for i in 0..usize::MAX {
-        let mut word = [0u8; NAME_ROOM];
-        match words.arg(i, &mut word) {
-            Err(FillError::NotPresent) => return i,
-            _ => {}
-        }
+// Is there such a word? The first, at 0, is the program's own name.
+fn has_word<E: Env>(words: &E, i: usize) -> bool {
+    let mut word = [0u8; NAME_ROOM];
+    match words.arg(i, &mut word) {
+        Err(FillError::NotPresent) => false,
+        _ => true,
     }
-    usize::MAX
 }
 
-// The file's name has to be text, since std opens no other.
+// The file's name. It has to be text, since std opens no other.
+fn name_of<'a, E: Env>(words: &E, space: &'a mut [u8]) -> io::Result<&'a str> {
+    let n = words
+        .arg(1, space)
+        .map_err(|_| io::Error::from_raw_os_error(ENAMETOOLONG))?;
+    std::str::from_utf8(&space[..n]).map_err(|_| io::Error::from_raw_os_error(EILSEQ))
+}
+
 fn main(rt: HostRuntime) {
-    if count_of_words(&rt) != 2 {
+    if !has_word(&rt, 1) || has_word(&rt, 2) {
         let _ = eprintln!(rt; "painterend: name a file of messages, as in: painterend FILE");
         return;
     }
     let mut space = [0u8; NAME_ROOM];
-    let name: &mut [u8] = &mut space;
-    let Ok(n) = rt.arg(1, name) else {
-        fail(
-            &rt,
-            "painterend: the file's name",
-            io::Error::from_raw_os_error(ENAMETOOLONG),
-        );
-        return;
-    };
-    match std::str::from_utf8(&name[..n]) {
+    match name_of(&rt, &mut space) {
         Ok(path) => print(&rt, path),
-        Err(_) => fail(
-            &rt,
-            "painterend: the file's name",
-            io::Error::from_raw_os_error(EILSEQ),
-        ),
+        Err(e) => fail(&rt, "painterend: the file's name", e),
     }
 }

@@ -1,80 +1,46 @@
 // Writing what was laid to standard output, and what failed to standard error.
-ghost use Rattle.std.specs.Prelude.{◌⊎◌, ◌≡◌, ◌≤◌, ◌↔◌, length, take, Err, IsOk, IsTrue};
-ghost use Rattle.std.specs.Io.KnownBytes.{Appends};
+ghost use Rattle.std.specs.Prelude.{◌⊎◌, ◌≡◌, ◌≤◌, ◌↔◌, length, is_ok, IsTrue};
 ghost use Rattle.std.specs.IoError.{error_kind};
-ghost use Rattle.painterend.specs.Turn.{Failed, Writes};
+ghost use Rattle.painterend.specs.Turn.{Failed, Puts, Writes};
 
-use crate::turns::{State, failing};
+use crate::turns::State;
+use page::Laid;
 use std::io;
 use std::io::{Cursor, Eprint, ErrorKind, Write};
 
 // Writes the bytes that the last turn laid; what cannot be written is reported.
-pub(crate) fn written<R: Eprint, P: Write>(rt: &R, paper: &mut P, out: &[u8], s: State) -> State
-    requires { s.laid.count ≤ length out.now }
+pub(crate) fn written<R: Eprint, P: Write>(rt: &R, paper: &mut P, sheet: &[u8], s: State) -> State
+    requires { s.laid.count ≤ length sheet.now }
     ensures state { (result ≡ s) ⊎ Failed result }
-    ensures bytes { Writes s result out.now (P.contents paper.old) (P.contents paper.new) }
+    ensures bytes { Writes s result sheet.now (P.contents paper.old) (P.contents paper.new) }
 {
-    let l = s.laid;
-    let n = l.count;
-    let p = put(paper, &out[..n]);
-    match p.outcome {
+    match put(paper, &sheet[..s.laid.count]) {
         Ok(()) => s,
-        Err(e) => {
-            fail(rt, "standard output", e);
-            failing(l)
-        }
+        Err(e) => reported(rt, "standard output", e, s.laid),
     }
 }
 
-// How many bytes were taken, and whether those were all.
-#[derive(Clone, Copy)]
-struct Taken {
-    count: usize,
-    outcome: io::Result<()>,
-}
-
-// Writes all of it, and answers how many bytes were taken. A write that a signal interrupts is made again; one that takes nothing has failed.
-fn put<P: Write>(paper: &mut P, text: &[u8]) -> Taken
-    ensures bound { result.count ≤ length text.now }
-    ensures bytes { Appends (P.contents paper.old) (P.contents paper.new) (take result.count text.now) }
-    ensures whole { IsOk result.outcome → result.count ≡ length text.now }
+// Writes all of it. Where that fails, its first bytes may be written. A write that a signal interrupts is made again; one that takes nothing has failed.
+// It is not std's `write_all`, which says nothing of the bytes that came before a failure: `Prints` does.
+fn put<P: Write>(paper: &mut P, text: &[u8]) -> io::Result<()>
+    ensures { Puts (is_ok result) text.now (P.contents paper.old) (P.contents paper.new) }
 {
-    let mut at: usize = 0;
-    let mut turns = u64::MAX;
-    while at < text.len() {
-        let rest = &text[at..];
+    let mut rest = text;
+    for _ in 0..u64::MAX {
+        if rest.is_empty() {
+            return Ok(());
+        }
         match paper.write(rest) {
-            Ok(n) => {
-                if n == 0 {
-                    return stopped(at, io::Error::from(ErrorKind::WriteZero));
-                }
-                at += n;
-            }
+            Ok(0) => return Err(io::Error::from(ErrorKind::WriteZero)),
+            Ok(n) => rest = &rest[n..],
             Err(e) => {
                 if !again(e) {
-                    return stopped(at, e);
+                    return Err(e);
                 }
             }
         }
-        if turns == 0 {
-            return stopped(at, io::Error::from(ErrorKind::Interrupted));
-        }
-        turns -= 1;
     }
-    Taken {
-        count: at,
-        outcome: Ok(()),
-    }
-}
-
-fn stopped(count: usize, e: io::Error) -> Taken
-    ensures count { result.count ≡ count }
-    ensures outcome { result.outcome ≡ Err e }
-{
-    Taken {
-        count,
-        outcome: Err(e),
-    }
+    Err(io::Error::from(ErrorKind::Interrupted))
 }
 
 // Was it a signal that stopped the read or the write?
@@ -84,7 +50,15 @@ pub(crate) fn again(e: io::Error) -> bool
     e.kind() == ErrorKind::Interrupted
 }
 
-// Room for the system's words.
+// An error is reported, and nothing more is done.
+pub(crate) fn reported<R: Eprint>(rt: &R, what: &str, e: io::Error, laid: Laid) -> State
+    ensures { Failed result }
+{
+    fail(rt, what, e);
+    State::failed(laid)
+}
+
+// Room for the system's words: an array, since there is no heap.
 const SPACE: usize = 512;
 
 // One line on standard error: what failed, and the reason in the system's words, without the number that std puts behind them.

@@ -1,10 +1,11 @@
 -- Going round from a home every place is met; so what a search passed, and how far a span reaches, is known of every place.
 use mathlib.Core.Bool.{Bool, true, false, cond, true≢false}
-use mathlib.Core.Path.{◌≡◌, refl}
+use mathlib.Core.Logic.{◌⊎◌, inl, inr}
+use mathlib.Core.Path.{◌≡◌, refl, sym, ◌∙◌}
 use Prim.Native.Nat.{ℕ, zero, suc, ◌+◌, ◌-◌, ◌*◌, ◌<◌, ◌≤◌}
 use native.Mathlib.Nat.{not-suc-le-zero, mul-le-mul_right}
 use native.Mathlib.Omega.{arith}
-use borrow.Author.Tests.{lt-ltb, le-ltb, leb-true, leb-false, ltb-true, ltb-false, eqb-true, eqb-false, ne_eqb}
+use borrow.Author.Tests.{lt-ltb, le-ltb, leb-true, leb-false, ltb-true, ltb-false, eqb-true, eqb-false, eq-eqb, ne_eqb}
 use lib.Dec.{leb, ltb, eqb}
 use Rattle.places.specs.Homes.{half, spread, home_of, round_from, away_from, first_round, last_round, outside}
 
@@ -35,6 +36,12 @@ inside from n long = go (eqb n 0) refl
 pub not_outside : (from n long : ℕ) → 0 < n → from + n ≤ long → outside from n long ≡ false
 unfolding outside
 not_outside from n long pos fits = let ne : n ≡ 0 → ⊥ = (λ e. omega (arith, e, pos)) in rw (ne_eqb n 0 ne, le-ltb long (from + n) fits)
+
+-- with no place, or beginning past the end
+pub outside_of_none : (from n m long : ℕ) → m ≡ n → (m ≡ 0) ⊎ ((m ≡ 0 → ⊥) × (long < from)) → true ≡ outside from n long
+unfolding outside
+outside_of_none from n m long wide (inl e) = rw (eq-eqb n 0 (sym wide ∙ e))
+outside_of_none from n m long wide (inr u) = rw (ne_eqb n 0 (rw wide at u.0), lt-ltb long (from + n) (let h = u.1 in omega (arith, h)))
 
 pub by_rest : (from n long : ℕ) → from ≤ long → ltb (long - from) n ≡ ltb long (from + n)
 by_rest from n long h = go (ltb long (from + n)) refl
@@ -75,6 +82,10 @@ module _ (n h : ℕ) (home : h < n) where
           let z : h + (i + n - h) ≡ i + n = omega (arith, home) in
           let y : n ≤ i + n = omega arith in
           rw (e, z, le-ltb (i + n) n y) (omega arith)
+
+pub outside_by_rest : (from n m long : ℕ) → m ≡ n → (m ≡ 0 → ⊥) → from ≤ long → ltb (long - from) m ≡ outside from n long
+unfolding outside
+outside_by_rest from n m long wide some h = rw (wide, ne_eqb n 0 (rw wide at some), by_rest from n long h)
 
 -- ---- a search of the first `top` places round
 module _ (n h top : ℕ) (p : ℕ → Bool) where

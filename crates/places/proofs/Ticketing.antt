@@ -1,36 +1,29 @@
 -- Tickets are the places' own, so the first ticket of a number is the first place that has it, and the first 0 the first empty place; and they stay so, whatever is stored in both.
-use mathlib.Core.Bool.{Bool, true, false, cond, not}
+use mathlib.Core.Bool.{Bool, true, false, not}
 use mathlib.Core.List.{List, map}
 use mathlib.Core.Path.{◌≡◌, refl, sym, ap, ◌∙◌}
 use Prim.Native.Nat.{ℕ, suc, ◌+◌, ◌*◌, ◌<◌, ◌≤◌}
 use native.Mathlib.Omega.{arith}
-use borrow.Author.Tests.{eqb-true, eqb-false, ne_eqb, eq-eqb, lt-ltb}
+use borrow.Author.Tests.{eqb-true, eqb-false, ne_eqb, eq-eqb}
 use lib.Dec.{eqb, ltb}
 use lib.ListN.{length, get_or, set, take, drop, replicate, length-map, length-drop, get_or-map}
 use lib.Seq.{set-get_or, length-take-le, get_or-take, get_or-drop}
-use Rattle.places.specs.Places.{symbols, shelf, first_where, has, placed_in, spot_in, FoundAt, FreeAt}
+use Rattle.places.specs.Places.{shelf, first_where, has, placed_in, FoundAt, FreeAt}
 use Rattle.places.specs.Homes.{outside}
 use Rattle.places.specs.Tickets.{first_in, ticket, Ticketed}
 use Rattle.places.proofs.Rounds.{inside, not_outside}
-use Rattle.places.proofs.Searching.{Passed, passed_hit, passed_more, passed_all, FirstFrom, from_the_end, from_here, from_the_next, from_the_first, first_passes, none_counted, all_counted}
+use Rattle.places.proofs.Searching.{FirstFrom, from_the_end, from_here, from_the_next, from_the_first, first_passes, none_counted, all_counted}
 use Rattle.places.proofs.Shelves.{shelf_length, shelf_get}
 use Rattle.places.proofs.Tables.{first_alike}
 use Rattle.places.proofs.Mirroring.{map_set, map_replicated}
 
--- ---- the search: it has passed j places of a shelf that lies inside the list
+-- ---- the search of a shelf that lies inside the list
 module _ (numbers : List ℕ) (from n number : ℕ) where
   abbrev sought : ℕ → Bool
   sought x = eqb x number
 
-  abbrev pub Gone : ℕ → Type 0
-  Gone j = Passed sought (take n (drop from numbers)) j
-
   abbrev pub Back : ℕ → ℕ → Type 0
   Back j r = FirstFrom sought (take n (drop from numbers)) j r
-
-  pub first_outside : (out : Bool) → out ≡ outside from n (length numbers) → out ≡ true → n ≡ first_in numbers from n number
-  unfolding first_in
-  first_outside out told e = rw (sym told ∙ e)
 
   module _ (in_List : outside from n (length numbers) ≡ false) where
     long : length (take n (drop from numbers)) ≡ n
@@ -42,12 +35,6 @@ module _ (numbers : List ℕ) (from n number : ℕ) where
 
     at_place : (j : ℕ) → j < n → get_or (take n (drop from numbers)) j 0 ≡ get_or numbers (from + j) 0
     at_place j h = rw (get_or-take, get_or-drop)
-
-    pub gone_more : (j : ℕ) → j < n → sought (get_or numbers (from + j) 0) ≡ false → Gone j → Gone (j + 1)
-    gone_more j h e = passed_more sought (take n (drop from numbers)) j 0 (rw long h) (rw (at_place j h) e)
-
-    pub first_here : (j : ℕ) → j < n → sought (get_or numbers (from + j) 0) ≡ true → Gone j → j ≡ first_in numbers from n number
-    first_here j h e g = first_is j (passed_hit sought (take n (drop from numbers)) j 0 (rw long h) (rw (at_place j h) e) g)
 
     -- the same search from the last place to the first
     pub back_end : Back n n
@@ -61,9 +48,6 @@ module _ (numbers : List ℕ) (from n number : ℕ) where
 
     pub back_first : (r : ℕ) → Back 0 r → r ≡ first_in numbers from n number
     back_first r b = let e = from_the_first sought (take n (drop from numbers)) r b in e ∙ first_is _ refl
-
-    pub first_nowhere : (j : ℕ) → j ≤ n → n ≤ j → Gone j → n ≡ first_in numbers from n number
-    first_nowhere j h k g = let e : j ≡ n = omega arith in first_is n (passed_all sought (take n (drop from numbers)) n long (rw e at g))
 
 -- ---- a place's ticket
 dead_then : (t : Bool) → not t ≡ true → t ≡ false
@@ -95,16 +79,6 @@ module _ {A : Type 0} (key : A → ℕ) (live : A → Bool) where
   -- another element with the same ticket
   pub ticketed_same : (l : List A) (ts : List ℕ) (p : ℕ) (a d : A) → ticket key live a ≡ ticket key live (get_or l p d) → Ticketed key live l ts → Ticketed key live (set l p a) ts
   ticketed_same l ts p a d e w = w ∙ sym (map_set (ticket key live) l p a ∙ ap (set (map (ticket key live) l) p) e ∙ sym (map_set (ticket key live) l p (get_or l p d)) ∙ ap (map (ticket key live)) (set-get_or l p d))
-
-  -- at the spot of a place
-  pub ticketed_at_spot : (n k : ℕ) → k < symbols → (l : List A) (ts : List ℕ) (i : ℕ) (a d : A) → Ticketed key live l ts
-      → set ts (spot_in n k i) (ticket key live (cond (ltb i n) a (get_or l (spot_in n k i) d))) ≡ placed_in n k ts i (ticket key live a)
-  unfolding spot_in
-  ticketed_at_spot n k h l ts i a d w = go (ltb i n) refl
-    where
-      go : (t : Bool) → ltb i n ≡ t → set ts (spot_in n k i) (ticket key live (cond (ltb i n) a (get_or l (spot_in n k i) d))) ≡ placed_in n k ts i (ticket key live a)
-      go true e = rw (e, lt-ltb k symbols h)
-      go false e = rw (e, lt-ltb k symbols h) (ticketed_set l ts (k * n + 0) (get_or l (k * n + 0) d) w ∙ ap (map (ticket key live)) (set-get_or l (k * n + 0) d) ∙ sym w)
 
   pub ticketed_placed : (n k : ℕ) (l : List A) (ts : List ℕ) (i : ℕ) (a : A) → Ticketed key live l ts → Ticketed key live (placed_in n k l i a) (placed_in n k ts i (ticket key live a))
   ticketed_placed n k l ts i a w = go (ltb i n) refl

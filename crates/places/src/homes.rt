@@ -1,9 +1,8 @@
 // The home of a number, and the way round a shelf from it.
 ghost use Rattle.std.specs.Prelude.{◌≡◌, ◌<◌, ◌≤◌, min};
-ghost use Rattle.places.specs.Places.{spot_in};
 ghost use Rattle.places.specs.Homes.{home_of, most_places, round_from, away_from, outside};
 
-use crate::SYMBOLS;
+use crate::Shelf;
 
 // Two to the power of 32: what a half of a number is below.
 const HALF: u64 = 4294967296;
@@ -17,8 +16,7 @@ pub fn home_of(number: u64, each: u16) -> usize
 {
     let folded = (number % HALF + number / HALF) % HALF;
     let spread = folded * GOLDEN % HALF;
-    let places = each as u64;
-    (spread * places / HALF) as usize
+    (spread * u64::from(each) / HALF) as usize
 }
 
 // The place j places on from a home.
@@ -38,48 +36,22 @@ pub(crate) fn away_from(n: usize, home: usize, i: usize) -> usize
     if home <= i { i - home } else { i + n - home }
 }
 
-// A place among all that can be looked at and stored to: place i of symbol k, or its first where i is none; and the first of all past the eighth symbol.
-pub fn spot(k: usize, each: u16, i: usize) -> usize
-    ensures { result ≡ spot_in each k i }
-{
-    let n = wide(each);
-    if SYMBOLS <= k {
-        return 0;
+impl Shelf {
+    // Whether there is no such shelf in a list of this length.
+    pub(crate) fn lies_outside(self, length: usize) -> bool
+        ensures { result ≡ outside self.from self.each length }
+    {
+        let n = usize::from(self.each);
+        if n == 0 || length < self.from {
+            return true;
+        }
+        length - self.from < n
     }
-    if i < n {
-        return k * n + i;
-    }
-    k * n
-}
-
-// Whether there is no such shelf in a list of this length.
-pub(crate) fn lies_outside(from: usize, n: usize, length: usize) -> bool
-    ensures { result ≡ outside from n length }
-{
-    if n == 0 {
-        return true;
-    }
-    if length < from {
-        return true;
-    }
-    length - from < n
-}
-
-pub(crate) fn least(a: usize, b: usize) -> usize
-    ensures { result ≡ min a b }
-{
-    if a < b { a } else { b }
 }
 
 // A span reaches no further than once round.
 pub(crate) fn capped(span: u16, each: u16) -> usize
     ensures { result ≡ min span each }
 {
-    if span < each { wide(span) } else { wide(each) }
-}
-
-pub(crate) fn wide(x: u16) -> usize
-    ensures { result ≡ x }
-{
-    x as usize
+    usize::from(span.min(each))
 }

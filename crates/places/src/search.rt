@@ -1,93 +1,62 @@
-// Searching a shelf: from a number's home on, going round, or from the first place on.
+// Searching a shelf: from a number's home on, going round.
 ghost use Rattle.std.specs.Prelude.{◌≡◌, false, cond, eqb};
+ghost use Rattle.places.specs.Places.{AtPlace};
 ghost use Rattle.places.specs.Homes.{sought_in, free_in};
-ghost use Rattle.places.specs.Tickets.{first_in};
 
-use crate::homes::{capped, home_of, least, lies_outside, round_from, wide};
+use crate::Shelf;
+use crate::homes::{capped, home_of, round_from};
 
-// The first place of the shelf, from the number's home on and within that home's span, at which the number is live, or `each`.
-pub fn find<'a>(
-    numbers: &'a [u64],
-    lives: &'a [bool],
-    spans: &'a [u16],
-    from: usize,
-    each: u16,
-    number: u64,
-) -> usize
-    ensures { result ≡ sought_in numbers.now lives.now spans.now from each number }
-{
-    let n = wide(each);
-    let shortest = least(least(numbers.len(), lives.len()), spans.len());
-    if lies_outside(from, n, shortest) {
-        return n;
-    }
-    let home = home_of(number, each);
-    let h = from + home;
-    let span = capped(spans[h], each);
-    let mut j: usize = 0;
-    let at = loop {
-        if span <= j {
-            break n;
+impl Shelf {
+    // The first place, from the number's home on and within that home's span, at which the number is live.
+    pub fn find(self, numbers: &[u64], lives: &[bool], spans: &[u16], number: u64) -> Option<usize>
+        ensures { AtPlace self.each result (sought_in numbers.now lives.now spans.now self.from self.each number) }
+    {
+        let n = usize::from(self.each);
+        let shortest = numbers.len().min(lives.len()).min(spans.len());
+        if self.lies_outside(shortest) {
+            return None;
         }
-        let i = round_from(n, home, j);
-        let p = from + i;
-        if is_held(lives[p], numbers[p], number) {
-            break i;
-        }
-        j += 1;
-    };
-    at
-}
-
-// An empty place of the shelf, the first from a number's home on, or `each`.
-pub fn room(lives: &[bool], from: usize, each: u16, number: u64) -> usize
-    ensures { result ≡ free_in lives.now from each number }
-{
-    let n = wide(each);
-    if lies_outside(from, n, lives.len()) {
-        return n;
-    }
-    let home = home_of(number, each);
-    let mut j: usize = 0;
-    let at = loop {
-        if n <= j {
-            break n;
-        }
-        let i = round_from(n, home, j);
-        let p = from + i;
-        if lives[p] {
+        let home = home_of(number, self.each);
+        let h = self.from + home;
+        let span = capped(spans[h], self.each);
+        // Document 01 names this form: a loop over a symbol's places that yields the place by `break` with a value.
+        let mut j: usize = 0;
+        let at = loop {
+            if span <= j {
+                break None;
+            }
+            let i = round_from(n, home, j);
+            let p = self.from + i;
+            if is_held(lives[p], numbers[p], number) {
+                break Some(i);
+            }
             j += 1;
-        } else {
-            break i;
-        }
-    };
-    at
-}
-
-// The first place of the shelf at which a number stands, or `each`.
-pub fn first(numbers: &[u64], from: usize, each: u16, number: u64) -> usize
-    ensures { result ≡ first_in numbers.now from each number }
-{
-    let n = wide(each);
-    if lies_outside(from, n, numbers.len()) {
-        return n;
+        };
+        at
     }
-    let mut j: usize = 0;
-    let at = loop {
-        if n <= j {
-            break n;
+
+    // An empty place, the first from a number's home on.
+    pub fn room(self, lives: &[bool], number: u64) -> Option<usize>
+        ensures { AtPlace self.each result (free_in lives.now self.from self.each number) }
+    {
+        let n = usize::from(self.each);
+        if self.lies_outside(lives.len()) {
+            return None;
         }
-        let p = from + j;
-        if numbers[p] == number {
-            break j;
+        let home = home_of(number, self.each);
+        for j in 0..n {
+            let i = round_from(n, home, j);
+            let p = self.from + i;
+            if !lives[p] {
+                return Some(i);
+            }
         }
-        j += 1;
-    };
-    at
+        None
+    }
 }
 
 fn is_held(live: bool, at: u64, number: u64) -> bool
     ensures { result ≡ cond live (eqb at number) false }
 {
-    if at == number { live } else { false }
+    at == number && live
 }

@@ -1,78 +1,71 @@
 // The test bench: makes the library calls that a file lists and prints a line for each. docs/PROBE.md has the form of the file and of the lines.
 #![tactic(auto)]
 
-mod calls;
 mod given;
+mod making;
 mod shown;
 mod timed;
 
-ghost use Rattle.std.specs.Prelude.{◌≡◌, ◌≤◌, length};
+ghost use Rattle.std.specs.Prelude.{◌≡◌, length};
 
 use book::Book;
-use given::length_of;
+use calls::read_full;
+use given::call_of;
+use making::make;
 use markets::Market;
 use std::fs::File;
-use std::io::{BufWriter, Read, Write};
+use std::io::{BufWriter, Write};
 use std::{env, io};
 
 // The longest file, and room for one byte more, which shows that a file is longer.
 const LONGEST: usize = 1048576;
 
-const SPACE: usize = 1048577;
+const SPACE: usize = LONGEST + 1;
 
-fn space() -> [u8; SPACE]
-    ensures { 1048577 ≡ length result }
+// A million zeros are too many for the check beside anything else, so the array is made apart.
+fn blank_file() -> [u8; SPACE]
+    ensures { SPACE ≡ length result }
 {
     [0; SPACE]
 }
 
-fn all_calls(out: &mut impl Write, s: &[u8]) -> io::Result<()> {
+fn all_calls(out: &mut impl Write, listed: &[u8]) -> io::Result<()> {
     let mut b = Book::new(Market::Nyse);
-    let mut at = 0;
-    while at < s.len() {
-        let n = length_of(&s[at..]);
-        if n == 0 {
-            return shown::unknown(out);
-        }
-        let end = at + n;
-        b = calls::call(out, b, &s[at..end])?;
-        shown::end(out)?;
-        at = end;
+    let mut rest = listed;
+    while let Some((letter, fields)) = rest.split_first() {
+        let Some((call, after)) = call_of(*letter, fields) else {
+            return unknown(out);
+        };
+        out.write_all(&[*letter])?;
+        b = make(out, b, call)?;
+        out.write_all(b"\n")?;
+        rest = after;
     }
     Ok(())
 }
 
-// The file that the first argument names, open, unless there is none.
+fn unknown(out: &mut impl Write) -> io::Result<()> {
+    out.write_all(b"?\n")
+}
+
+// The file that the first argument names, open, unless there is none. It stands in both test programs: a library's function has a contract, and none can say
+// what the system hands out.
 fn named_file(rt: &HostRuntime) -> Option<File> {
     let path = env::args(rt).ok()?.nth(1)?;
     File::open(rt, path).ok()
 }
 
-// Reads until buf is full, the file ends or a read fails: how many bytes stand at the start of buf.
-fn read_full(file: &mut impl Read, buf: &mut [u8]) -> usize
-    ensures { result ≤ length buf.new }
-{
-    let mut done = 0;
-    while done < buf.len() {
-        match file.read(&mut buf[done..]) {
-            Ok(0) | Err(_) => break,
-            Ok(n) => done += n,
-        }
-    }
-    done
-}
-
 fn main(rt: HostRuntime) -> io::Result<()> {
-    let Some(mut named) = named_file(&rt) else {
+    let Some(mut file) = named_file(&rt) else {
         return eprintln!(rt; "probe: the file can't be opened");
     };
-    let mut file = space();
-    let got = read_full(&mut named, &mut file);
+    let mut space = blank_file();
+    let listed = read_full(&mut file, &mut space);
     let mut out = BufWriter::new(rt.alloc(), io::writer(&rt))?;
-    if LONGEST < got {
-        shown::unknown(&mut out)?;
+    if LONGEST < listed.len() {
+        unknown(&mut out)?;
     } else {
-        all_calls(&mut out, &file[..got])?;
+        all_calls(&mut out, listed)?;
     }
     out.flush()
 }

@@ -1,6 +1,7 @@
-pub mod Sizes
-pub mod Recorded
-pub mod Storing
 pub mod Holding
 pub mod OneOutcome
 pub mod Crosses
+pub mod Finding
+pub mod Storing
+pub mod Ruling
+pub mod Sums

@@ -3,10 +3,9 @@ use mathlib.Core.Path.{◌≡◌, sym, ap, ◌∙◌}
 use Prim.Native.Nat.{ℕ}
 use Rattle.places.proofs.EightShelves.{by_place, alike_everywhere}
 use Rattle.record.specs.State.{kept_at, Wf}
-use Rattle.record.specs.Promises.{Deals}
+use Rattle.record.specs.Promises.{Dealt, Deals}
 use Rattle.record.specs.declared.Record.{Record}
 use Rattle.record.specs.declared.Deal.{Deal}
-use Rattle.record.specs.declared.Dealt.{Dealt}
 
 abbrev SameKept : Record → Record → Type 0
 SameKept a b = (m : ℕ) → kept_at a m ≡ kept_at b m

@@ -25,11 +25,17 @@ trade_number t = t.number
 abbrev pub trade_live : Trade → Bool
 trade_live t = t.live
 
+abbrev pub trade_volume : Trade → ℕ
+trade_volume t = t.volume
+
 abbrev pub cross_number : Cross → ℕ
 cross_number x = x.number
 
 abbrev pub cross_live : Cross → Bool
 cross_live x = x.live
+
+abbrev pub cross_volume : Cross → ℕ
+cross_volume x = x.volume
 
 -- what every promise speaks of: the trades and the crosses kept of a symbol, each list in the order of its numbers
 pub record Kept : Type 0 where

@@ -1,26 +1,23 @@
 // The record of eight symbols, 128 places each for trades and 16 for crosses: what a deal does to it, and the shares that it sums to.
 //
-// Nothing here knows of messages, of a message's number or of orders. The record is taken by value and the next one is handed back; the run of a book lends single arrays.
+// Nothing here knows of messages, of a message's number or of orders. A record is changed in place.
 #![tactic(auto)]
 
 mod deals;
+mod kept;
+mod kept_crosses;
+mod kept_trades;
 mod rules;
-mod search;
 mod shares;
 
 ghost use Rattle.std.specs.Prelude.{◌≡◌};
-ghost use Rattle.record.specs.State.{no_trade, no_cross, no_trades};
+ghost use Rattle.record.specs.State.{no_trades};
 
-pub use deals::{cross_or, decided, trade_or};
+use kept::Kept;
 use places::SYMBOLS;
-pub use rules::Recording;
-pub use search::{stub_of, ticket_of};
 
 // Each symbol's own places for trades.
 pub const TRADES: usize = 128;
-
-// The same, as searches take it.
-pub const EACH: u16 = TRADES as u16;
 
 // The places of all symbols.
 pub const PLACES: usize = SYMBOLS * TRADES;
@@ -28,11 +25,9 @@ pub const PLACES: usize = SYMBOLS * TRADES;
 // The same of crosses.
 pub const CROSSES: usize = 16;
 
-pub const CROSSES_EACH: u16 = CROSSES as u16;
-
 pub const CROSS_PLACES: usize = SYMBOLS * CROSSES;
 
-// A place for a trade: empty, or a kept one.
+// A place for a trade: empty, or a kept one. C keeps this layout and that of a cross, through which no Option goes.
 #[repr(C)]
 #[derive(Clone, Copy)]
 pub struct Trade {
@@ -52,6 +47,7 @@ pub struct Cross {
 }
 
 // The trades, and what searches read of them: at each place its trade's number and one, or 0 where it is empty. The crosses, and their stubs likewise.
+// C lends this memory, and its layout stays: four arrays side by side. The fields stay public, since a narrower type would ask more of a host in Rattle.
 #[repr(C)]
 #[derive(Clone, Copy)]
 pub struct Record {
@@ -61,7 +57,7 @@ pub struct Record {
     pub stubs: [u64; CROSS_PLACES],
 }
 
-// What is done to a symbol's record. A trade comes as its number, its price and its volume, a cross or its correction as its number and its volume.
+// What is done to a symbol's record. A trade comes as its number, its price and its volume, a cross or its correction as its number and its volume: the rules (`deal_to`, `cross_to`) name the cases so.
 #[derive(Clone, Copy)]
 pub enum Deal {
     Nothing,
@@ -71,22 +67,19 @@ pub enum Deal {
     Corrects(u32, u32),
 }
 
-// The next record, and whether the symbol's record loses its mark. Where it does, nothing was kept, changed or removed.
-#[derive(Clone, Copy)]
-pub struct Dealt {
-    pub trades: Record,
-    pub lost: bool,
-}
+// A symbol's record loses its mark, and nothing was kept, changed or removed.
+#[derive(Clone, Copy, Debug, PartialEq, Eq)]
+pub struct Lost;
 
 impl Record {
     // Nothing is kept.
     pub fn new() -> Record
         ensures { result ≡ no_trades }
     {
-        let t = no_trade();
+        let t = Trade::empty();
         let places = [t; PLACES];
         let tickets = [0; PLACES];
-        let c = no_cross();
+        let c = Cross::empty();
         let crosses = [c; CROSS_PLACES];
         let stubs = [0; CROSS_PLACES];
         Record {
@@ -95,27 +88,5 @@ impl Record {
             crosses,
             stubs,
         }
-    }
-}
-
-// An empty place, all zero.
-fn no_trade() -> Trade
-    ensures { result ≡ no_trade }
-{
-    Trade {
-        live: false,
-        number: 0,
-        price: 0,
-        volume: 0,
-    }
-}
-
-fn no_cross() -> Cross
-    ensures { result ≡ no_cross }
-{
-    Cross {
-        live: false,
-        number: 0,
-        volume: 0,
     }
 }

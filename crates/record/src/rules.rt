@@ -1,125 +1,71 @@
-// What a deal does to a symbol's record, decided on small values: the place that was found, the deal.
-ghost use Rattle.std.specs.Prelude.{◌≡◌, true, false, List};
-ghost use Rattle.record.specs.Rules.{cross_of};
-ghost use Rattle.record.specs.Deciding.{TradeShelf, CrossShelf, TradeAt, TradeRoom, CrossAt, CrossRoom, Decides, unrecorded, with_trade_at, with_cross_at, Spares};
+// What can be done to the trades or the crosses of one symbol: its own places, and beside them the tickets that searches read.
+// They come as two slices: a struct of both, lent from two fields of the record, was tried, and the borrow checker does not cover it.
+ghost use Rattle.std.specs.Prelude.{◌≡◌, ◌==◌, true, suc, length, position};
+ghost use Rattle.places.specs.Tickets.{ticket};
+ghost use Rattle.record.specs.Deciding.{Keeps, Replaces};
 
-use crate::{CROSSES, Cross, Deal, TRADES, Trade, no_cross, no_trade};
+use crate::Lost;
+use crate::kept::Kept;
 
-// The places to change (TRADES and CROSSES: none), and whether the whole mark goes.
-#[derive(Clone, Copy)]
-pub struct Recording {
-    pub place: usize,
-    pub trade: Trade,
-    pub nook: usize,
-    pub cross: Cross,
-    pub lost: bool,
-}
+// The ticket of an empty place.
+const EMPTY: u64 = 0;
 
-// Nothing is kept, changed or removed.
-pub(crate) fn unrecorded(lost: bool) -> Recording
-    ensures { result ≡ unrecorded lost }
+// One more is kept. It is left out where no place is empty, and where its number is kept already: a full record isn't searched for the number.
+pub(crate) fn keep<T: Kept>(places: &mut [T], tickets: &mut [u64], x: T) -> Result<(), Lost>
+    requires live { T.live x ≡ true }
+    requires beside { length tickets.old ≡ length places.old }
+    ensures { Keeps T.number T.live places.old tickets.old x places.new tickets.new result }
 {
-    let trade = no_trade();
-    let cross = no_cross();
-    Recording {
-        place: TRADES,
-        trade,
-        nook: CROSSES,
-        cross,
-        lost,
+    let new = ticket(x);
+    match place_of(tickets, EMPTY) {
+        Some(i) if place_of(tickets, new).is_none() => {
+            places[i] = x;
+            tickets[i] = new;
+            Ok(())
+        }
+        _ => Err(Lost),
     }
 }
 
-fn with_trade(i: usize, trade: Trade) -> Recording
-    ensures { result ≡ with_trade_at i trade }
+// What is kept of a number makes way for another of that number, or for an empty place.
+pub(crate) fn replace<T: Kept>(
+    places: &mut [T],
+    tickets: &mut [u64],
+    number: u32,
+    x: T,
+) -> Result<(), Lost>
+    requires same { T.live x ≡ true → T.number x ≡ number }
+    requires beside { length tickets.old ≡ length places.old }
+    ensures { Replaces T.number T.live places.old tickets.old number x places.new tickets.new result }
 {
-    let cross = no_cross();
-    Recording {
-        place: i,
-        trade,
-        nook: CROSSES,
-        cross,
-        lost: false,
-    }
-}
-
-fn with_cross(i: usize, cross: Cross) -> Recording
-    ensures { result ≡ with_cross_at i cross }
-{
-    let trade = no_trade();
-    Recording {
-        place: TRADES,
-        trade,
-        nook: i,
-        cross,
-        lost: false,
-    }
-}
-
-// A trade whose number is kept already, at i, or that finds no room, at j, loses the mark.
-pub(crate) fn recorded(i: usize, j: usize, trade: u32, price: u32, volume: u32) -> Recording
-    ensures decides { (l : List Trade) (x : List Cross) → TradeShelf l → CrossShelf x → TradeAt trade l i → TradeRoom l j → Decides l x (Deal.Records trade price volume) result }
-    ensures spares { Spares result }
-{
-    if i < TRADES {
-        return unrecorded(true);
-    }
-    if TRADES <= j {
-        return unrecorded(true);
-    }
-    let t = Trade {
-        live: true,
-        number: trade,
-        price,
-        volume,
+    let Some(i) = place_of(tickets, ticket_of(number)) else {
+        return Err(Lost);
     };
-    with_trade(j, t)
+    places[i] = x;
+    tickets[i] = ticket(x);
+    Ok(())
 }
 
-pub(crate) fn cancelled(i: usize, trade: u32) -> Recording
-    ensures decides { (l : List Trade) (x : List Cross) → TradeShelf l → CrossShelf x → TradeAt trade l i → Decides l x (Deal.Cancels trade) result }
-    ensures spares { Spares result }
+// The first place with a ticket.
+fn place_of(tickets: &[u64], ticket: u64) -> Option<usize>
+    ensures { result ≡ position (λ t. t == ticket) tickets.now }
 {
-    if TRADES <= i {
-        return unrecorded(true);
-    }
-    let gone = no_trade();
-    with_trade(i, gone)
+    tickets.iter().position(|&t| t == ticket)
 }
 
-// A cross whose number is kept already, at i, or that finds no room, at j, loses the mark.
-pub(crate) fn crossed(i: usize, j: usize, cross: u32, volume: u32) -> Recording
-    ensures decides { (l : List Trade) (x : List Cross) → TradeShelf l → CrossShelf x → CrossAt cross x i → CrossRoom x j → Decides l x (Deal.Crosses cross volume) result }
-    ensures spares { Spares result }
+// What searches read of a place.
+fn ticket<T: Kept>(x: T) -> u64
+    ensures { result ≡ ticket T.number T.live x }
 {
-    if i < CROSSES {
-        return unrecorded(true);
+    if x.live() {
+        ticket_of(x.number())
+    } else {
+        EMPTY
     }
-    if CROSSES <= j {
-        return unrecorded(true);
-    }
-    let c = cross_of(cross, volume);
-    with_cross(j, c)
 }
 
-// The volume of the cross at i is replaced.
-pub(crate) fn corrected(i: usize, cross: u32, volume: u32) -> Recording
-    ensures decides { (l : List Trade) (x : List Cross) → TradeShelf l → CrossShelf x → CrossAt cross x i → Decides l x (Deal.Corrects cross volume) result }
-    ensures spares { Spares result }
+fn ticket_of(number: u32) -> u64
+    ensures { result ≡ suc number }
 {
-    if CROSSES <= i {
-        return unrecorded(true);
-    }
-    let c = cross_of(cross, volume);
-    with_cross(i, c)
-}
-
-fn cross_of(number: u32, volume: u32) -> Cross
-    ensures { result ≡ cross_of number volume }
-{
-    Cross {
-        live: true,
-        number,
-        volume,
-    }
+    u64::from(number) + 1
 }

@@ -1,66 +1,43 @@
 // The shares of a symbol's kept trades and crosses.
-ghost use Rattle.std.specs.Prelude.{◌≡◌, cond, ◌<◌, ◌≤◌, ◌*◌};
-ghost use Rattle.places.specs.Places.{symbols, sum_by};
-ghost use Rattle.record.specs.State.{trades_each, crosses_each, kept_at};
+ghost use Rattle.std.specs.Prelude.{◌≡◌, cond, length, ◌≤◌, ◌*◌};
+ghost use Rattle.places.specs.Places.{sum_by};
+ghost use Rattle.record.specs.State.{trades_each, kept_at};
 ghost use Rattle.record.specs.Rules.{shares_of};
 
-use crate::{CROSSES, Cross, Record, TRADES, Trade};
+use crate::kept::Kept;
+use crate::{CROSSES, Record, TRADES};
 use places::SYMBOLS;
 
 impl Record {
     // The sum over what is kept of the symbol at place k: none past the eighth.
-    pub fn shares(self, k: usize) -> u64
-        ensures { result ≡ shares_of (kept_at self k) }
+    pub fn shares(&self, k: usize) -> u64
+        ensures { result ≡ shares_of (kept_at self.now k) }
     {
         if SYMBOLS <= k {
             return 0;
         }
-        self.shares_traded(k) + self.shares_crossed(k)
-    }
-
-    fn shares_traded(self, k: usize) -> u64
-        requires { k < symbols }
-        ensures sum { result ≡ sum_by (λ t. t.volume) (kept_at self k).trades }
-        ensures most { result ≤ trades_each * 4294967295 }
-    {
-        let base = k * TRADES;
-        let mut sum: u64 = 0;
-        let mut j: usize = TRADES;
-        while 0 < j {
-            j -= 1;
-            let i = base + j;
-            let t = self.places[i];
-            sum += kept_volume(t) as u64;
-        }
-        sum
-    }
-
-    fn shares_crossed(self, k: usize) -> u64
-        requires { k < symbols }
-        ensures sum { result ≡ sum_by (λ c. c.volume) (kept_at self k).crosses }
-        ensures most { result ≤ crosses_each * 4294967295 }
-    {
-        let base = k * CROSSES;
-        let mut sum: u64 = 0;
-        let mut j: usize = CROSSES;
-        while 0 < j {
-            j -= 1;
-            let i = base + j;
-            let c = self.crosses[i];
-            sum += crossed_volume(c) as u64;
-        }
-        sum
+        let trades = k * TRADES;
+        let crosses = k * CROSSES;
+        shares_on(&self.places[trades..trades + TRADES])
+            + shares_on(&self.crosses[crosses..crosses + CROSSES])
     }
 }
 
-fn kept_volume(t: Trade) -> u32
-    ensures { result ≡ cond t.live t.volume 0 }
+// The shares of what is kept in these places.
+fn shares_on<T: Kept>(places: &[T]) -> u64
+    requires { length places.now ≤ trades_each }
+    ensures sum { result ≡ sum_by (λ x. cond (T.live x) (T.volume x) 0) places.now }
+    ensures most { result ≤ length places.now * 4294967295 }
 {
-    if t.live { t.volume } else { 0 }
+    let mut sum: u64 = 0;
+    for x in places {
+        sum += u64::from(kept_volume(*x));
+    }
+    sum
 }
 
-fn crossed_volume(c: Cross) -> u32
-    ensures { result ≡ cond c.live c.volume 0 }
+fn kept_volume<T: Kept>(x: T) -> u32
+    ensures { result ≡ cond (T.live x) (T.volume x) 0 }
 {
-    if c.live { c.volume } else { 0 }
+    if x.live() { x.volume() } else { 0 }
 }

@@ -8,10 +8,12 @@ use native.Mathlib.Omega.{arith}
 use lib.Dec.{eqb}
 use lib.ListN.{length, get_or, set, take, get_or-eq_default, replicate}
 use lib.Seq.{take-length, get_or-set_same, get_or-set_other}
-use Rattle.places.specs.Places.{symbols, tabulate, first_where, sum_by, count}
+use Rattle.std.specs.Prelude as answer
+use Rattle.std.specs.Prelude.{Some, None, is_some}
+use Rattle.places.specs.Places.{symbols, AtPlace, tabulate, first_where, sum_by, count}
 use Rattle.places.proofs.Tables.{length_tabulate, get_d_tabulate, tabulate_but_one, first_alike}
 use Rattle.places.specs.Tickets.{first_in}
-use Rattle.places.proofs.Searching.{first_passes}
+use Rattle.places.proofs.Searching.{FirstOf, first_answered, first_passes}
 use Rattle.places.proofs.Ticketing.{has_ticket, first_on}
 use Rattle.symbols.specs.State.{nowhere, Entry, place_at, entry_in, entries, itself, has_index, is_vacant, place_of, vacancy_of, place_index, place_used, Wf, nobody}
 use Rattle.symbols.specs.declared.Place.{Place}
@@ -76,6 +78,27 @@ unfolding place_of
 used_there b index k e h =
     let p : has_index itself index (get_or (entries b) k none) ≡ true = (rw e (first_passes (has_index itself index) (entries b) none (rw (length_entries b, ← e) h))) in
     seen_named index (place_at b k).used (entry_in (place_at b k)) (sym (ap (has_index itself index) (entry_at b k h)) ∙ p)
+
+-- ---- what a search of the eight places answers
+place_answered : (p : Place → Bool) (l : List Place) (n : ℕ) → length l ≡ symbols → first_where p l ≡ n → (r : answer.Option ℕ) → FirstOf p l r → AtPlace symbols r n
+place_answered p l n eight is None f = let e : first_where p l ≡ length l = first_answered p l None f in omega (arith, e, eight, is)
+place_answered p l n eight is (Some k) f = let e : first_where p l ≡ k = first_answered p l (Some k) f in (omega (arith, e, is), omega (arith, f.0, eight))
+
+module _ (b : Symbols) (eight : length b.places ≡ symbols) where
+  pub named_place : (index : ℕ) (r : answer.Option ℕ) → FirstOf (named index) b.places r → AtPlace symbols r (place_of itself index (entries b))
+  named_place index = place_answered (named index) b.places _ eight (place_is b eight index)
+
+  pub vacant_place : (r : answer.Option ℕ) → FirstOf unused b.places r → AtPlace symbols r (vacancy_of (entries b))
+  vacant_place = place_answered unused b.places _ eight (vacancy_is b eight)
+
+-- ---- a place that was answered, or none
+pub there_is : (r : answer.Option ℕ) (n : ℕ) → AtPlace symbols r n → is_some r ≡ true → n < symbols
+there_is None n h e = absurd (false≢true e)
+there_is (Some k) n h e = omega (arith, h.0, h.1)
+
+pub there_is_none : (r : answer.Option ℕ) (n : ℕ) → AtPlace symbols r n → is_some r ≡ false → symbols ≤ n
+there_is_none None n h e = h
+there_is_none (Some k) n h e = absurd (false≢true (sym e))
 
 -- ---- a place changed
 abbrev pub with_place : Symbols → ℕ → Place → List ℕ → Symbols

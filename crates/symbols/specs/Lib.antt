@@ -1,4 +1,5 @@
 pub mod State
+pub mod Answers
 pub mod Registering
 pub mod Turns
 pub mod Promises

@@ -1,5 +1,6 @@
 -- Registering a symbol: document 01, "Numbers answered". 13, then 11, then 12.
-use Rattle.std.specs.Prelude.{Bool, true, false, cond, List, ℕ, ltb, eqb, length, set, replicate}
+use Rattle.std.specs.Prelude as told
+use Rattle.std.specs.Prelude.{Some, None, Bool, true, false, cond, List, ℕ, ltb, eqb, length, set}
 use Rattle.std.proofs.Math.Option.{Option, none, some}
 use Rattle.places.specs.Places.{symbols, first_where}
 use Rattle.symbols.specs.State.{name_bytes, padded_name, Entry, place_of, vacancy_of}
@@ -40,7 +41,10 @@ registered_if false false true v s = record { view = set v (vacancy_of v) (some 
 unfoldable pub registered : {S : Type 0} → (S → Entry) → (Entry → S) → List (Option S) → ℕ → List ℕ → ℕ → Next S
 registered entry started v index name scale = registered_if (bad name scale) (ltb (place_of entry index v) symbols) (ltb (vacancy_of v) symbols) v (started (new_entry index name scale))
 
--- ---- what is told of a registered symbol: its name as it is kept, how long that is, and its scale; or 5
-unfoldable pub told_of : Option Entry → Listing
-told_of none = record { answer = 5; name = replicate name_bytes 0; len = 0; scale = 0 }
-told_of (some e) = record { answer = 0; name = e.name; len = e.len; scale = e.scale }
+-- ---- what is told of a registered symbol: its name as it is kept, how long that is, and its scale
+abbrev pub listed : Entry → Listing
+listed e = record { name = e.name; len = e.len; scale = e.scale }
+
+unfoldable pub told_of : Option Entry → told.Option Listing
+told_of none = None
+told_of (some e) = Some (listed e)

@@ -1,6 +1,6 @@
 // The eight places of registration: who is registered, which number each symbol expects, whether it is stale, and whether its record is whole.
 //
-// Nothing here knows of messages, of orders or of trades. The symbols are taken by value and the next ones are handed back; the run of a book lends single arrays.
+// Nothing here knows of messages, of orders or of trades. Registering takes the symbols by value and hands the next ones back; a message changes them in place.
 #![tactic(auto)]
 
 mod names;
@@ -11,13 +11,13 @@ ghost use Rattle.std.specs.Prelude.{◌≡◌};
 ghost use Rattle.symbols.specs.State.{no_symbol, nobody};
 
 use places::SYMBOLS;
-pub use registering::{Entered, Listing, seat};
-pub use turns::{counted, turn_of};
+pub use registering::{Listing, RegisterError};
+pub use turns::TurnError;
 
 // The longest name of a symbol, in bytes.
 pub const NAME: usize = 11;
 
-// Where a symbol stands: the number that it expects, whether it is refused until a clear, and whether its record is whole.
+// Where a symbol stands: the number that it expects, whether it is refused until a clear, and whether its record is whole. C keeps this layout, as part of a place.
 #[repr(C)]
 #[derive(Clone, Copy)]
 pub struct Standing {
@@ -27,6 +27,7 @@ pub struct Standing {
 }
 
 // A place of registration: empty, or a symbol's. The name is padded with zeros.
+// C keeps this layout, through which no Option and no slice goes: so `used` tells an empty place, and `len` stands beside the name.
 #[repr(C)]
 #[derive(Clone, Copy)]
 pub struct Place {
@@ -39,6 +40,7 @@ pub struct Place {
 }
 
 // The places, and what a search by index reads of them: at each place its symbol's index and one, or 0 where it is empty.
+// C keeps this layout: two arrays, and not one of pairs. The fields stay public, since a narrower type would ask more of a host in Rattle.
 #[repr(C)]
 #[derive(Clone, Copy)]
 pub struct Symbols {

@@ -9,32 +9,16 @@ use crate::NAME;
 pub(crate) fn name_bad(name: &[u8]) -> bool
     ensures { result ≡ name_bad name.now }
 {
-    if name.len() == 0 {
+    if name.is_empty() || NAME < name.len() {
         return true;
     }
-    if NAME < name.len() {
-        return true;
-    }
-    let mut j: usize = 0;
-    while j < name.len() {
-        if byte_bad(name[j]) {
-            return true;
-        }
-        j += 1;
-    }
-    false
+    name.iter().any(|c| byte_bad(*c))
 }
 
 fn byte_bad(c: u8) -> bool
     ensures { result ≡ byte_bad c }
 {
-    if c < 0x21 {
-        return true;
-    }
-    if 0x7E < c {
-        return true;
-    }
-    c == b','
+    c < 0x21 || 0x7E < c || c == b','
 }
 
 // A name with zeros after it.
@@ -42,11 +26,7 @@ pub(crate) fn padded_name(name: &[u8]) -> [u8; NAME]
     requires { length name.now ≤ name_bytes }
     ensures { result ≡ padded_name name.now }
 {
-    let mut a = [0u8; NAME];
-    let mut j: usize = 0;
-    while j < name.len() {
-        a[j] = name[j];
-        j += 1;
-    }
-    a
+    let mut padded = [0u8; NAME];
+    padded[..name.len()].copy_from_slice(name);
+    padded
 }

@@ -1,170 +1,130 @@
 // Registering, and where a symbol lies.
-ghost use Rattle.std.specs.Prelude.{◌≡◌, false, cond, suc, eqb};
-ghost use Rattle.places.specs.Places.{symbols};
+ghost use Rattle.std.specs.Prelude.{◌≡◌, suc};
+ghost use Rattle.places.specs.Places.{symbols, AtPlace};
 ghost use Rattle.places.specs.Tickets.{first_in};
 ghost use Rattle.symbols.specs.State.{entries, itself, place_of, found_in, vacancy_of};
+ghost use Rattle.symbols.specs.Answers.{register_number, Sits};
 ghost use Rattle.symbols.specs.Registering.{told_of};
 ghost use Rattle.symbols.specs.Promises.{Registers};
 
 use crate::names::{name_bad, padded_name};
 use crate::{NAME, Place, Standing, Symbols};
-use places::SYMBOLS;
+use places::{SYMBOLS, Seat};
 
 // The largest price scale.
 const MOST_SCALE: u8 = 6;
 
-// What `told` answers: the name, of so many bytes and zeros after them, and the scale of the prices; or 5, and zeros.
+// What `told` answers: the name, of so many bytes and zeros after them, and the scale of the prices.
+// A library crate has no heap, so the name is an array with its length beside it.
 #[derive(Clone, Copy)]
 pub struct Listing {
-    pub answer: u8,
     pub name: [u8; NAME],
     pub len: usize,
     pub scale: u8,
 }
 
-// The next symbols, and document 01's number.
-#[derive(Clone, Copy)]
-pub struct Entered {
-    pub symbols: Symbols,
-    pub answer: u8,
+// Why a symbol is not registered: a name or a scale that it can't have, an index that has its symbol, or no place left.
+#[derive(Clone, Copy, PartialEq, Eq)]
+pub enum RegisterError {
+    BadName,
+    Taken,
+    Full,
+}
+
+// Document 01's number.
+impl From<RegisterError> for u8 {
+    ghost from_gives = { λ e n. n ≡ register_number e };
+
+    fn from(e: RegisterError) -> u8 {
+        match e {
+            RegisterError::BadName => 13,
+            RegisterError::Taken => 11,
+            RegisterError::Full => 12,
+        }
+    }
 }
 
 impl Symbols {
-    // Registers a symbol: 13, then 11, then 12; or it is not stale, its record is whole and it expects number 1.
-    pub fn register(mut self, index: u32, name: &[u8], scale: u8) -> Entered
+    // Registers a symbol: a bad name is told first, then a taken index, then that there is no place; or it is not stale, its record is whole and it expects number 1.
+    pub fn register(mut self, index: u32, name: &[u8], scale: u8) -> Result<Symbols, RegisterError>
         ensures { Registers self index name.now scale result }
     {
         if MOST_SCALE < scale {
-            return Entered {
-                symbols: self,
-                answer: 13,
-            };
+            return Err(RegisterError::BadName);
         }
         if name_bad(name) {
-            return Entered {
-                symbols: self,
-                answer: 13,
-            };
+            return Err(RegisterError::BadName);
         }
-        let k = self.place_of(index);
-        if k < SYMBOLS {
-            return Entered {
-                symbols: self,
-                answer: 11,
-            };
+        if self.place_of(index).is_some() {
+            return Err(RegisterError::Taken);
         }
-        let free = self.vacancy();
-        if SYMBOLS <= free {
-            return Entered {
-                symbols: self,
-                answer: 12,
-            };
-        }
-        let len = name.len();
-        let kept = padded_name(name);
+        let Some(free) = self.vacancy() else {
+            return Err(RegisterError::Full);
+        };
         let standing = Standing {
             expected: 1,
             stale: false,
             whole: true,
         };
-        let p = Place {
+        let kept = padded_name(name);
+        self.places[free] = Place {
             used: true,
             index,
             name: kept,
-            len,
+            len: name.len(),
             scale,
             standing,
         };
-        self.places[free] = p;
-        self.tickets[free] = index as u64 + 1;
-        Entered {
-            symbols: self,
-            answer: 0,
-        }
+        self.tickets[free] = u64::from(index) + 1;
+        Ok(self)
     }
 
-    // What was registered under an index, or 5.
-    pub fn told(self, index: u32) -> Listing
-        ensures { result ≡ told_of (found_in itself index (entries self)) }
+    // What was registered under an index.
+    pub fn told(&self, index: u32) -> Option<Listing>
+        ensures { result ≡ told_of (found_in itself index (entries self.now)) }
     {
-        let k = self.place_of(index);
-        if SYMBOLS <= k {
-            let name = [0u8; NAME];
-            return Listing {
-                answer: 5,
-                name,
-                len: 0,
-                scale: 0,
-            };
-        }
+        let k = self.place_of(index)?;
         let p = self.places[k];
         let name = p.name;
-        Listing {
-            answer: 0,
+        Some(Listing {
             name,
             len: p.len,
             scale: p.scale,
-        }
+        })
     }
 
-    // The place of the symbol with this index, or SYMBOLS.
-    pub fn place_of(self, index: u32) -> usize
-        ensures { result ≡ place_of itself index (entries self) }
+    // The place of the symbol with this index.
+    pub fn place_of(&self, index: u32) -> Option<usize>
+        ensures { AtPlace symbols result (place_of itself index (entries self.now)) }
     {
-        let mut j: usize = 0;
-        let at = loop {
-            if SYMBOLS <= j {
-                break SYMBOLS;
-            }
-            let p = self.places[j];
-            if is_named(p.used, p.index, index) {
-                break j;
-            }
-            j += 1;
-        };
-        at
+        self.places.iter().position(|p| p.used && p.index == index)
     }
 
-    // The first place with no symbol, or SYMBOLS.
-    fn vacancy(self) -> usize
-        ensures { result ≡ vacancy_of (entries self) }
+    // The first place with no symbol.
+    fn vacancy(&self) -> Option<usize>
+        ensures { AtPlace symbols result (vacancy_of (entries self.now)) }
     {
-        let mut j: usize = 0;
-        let at = loop {
-            if SYMBOLS <= j {
-                break SYMBOLS;
-            }
-            let p = self.places[j];
-            if p.used {
-                j += 1;
-            } else {
-                break j;
-            }
-        };
-        at
+        self.places.iter().position(|p| !p.used)
+    }
+
+    // The seat of the symbol with this index, as the tickets tell it. All eight are looked at, from the last to the first, so that no branch hangs on which symbol it is.
+    pub fn seat(&self, index: u32) -> Option<Seat>
+        ensures { Sits result (first_in self.now.tickets 0 symbols (suc index)) }
+    {
+        Seat::of(seat_in(&self.tickets, index))
     }
 }
 
-// The place of the symbol with this index among lent tickets, or SYMBOLS. All eight are looked at, from the last to the first, so that no branch hangs on which symbol it is.
-pub fn seat(tickets: &[u64; SYMBOLS], index: u32) -> usize
+// The place of its ticket, or SYMBOLS, of which `seat` makes an Option.
+fn seat_in(tickets: &[u64; SYMBOLS], index: u32) -> usize
     ensures { result ≡ first_in tickets.now 0 symbols (suc index) }
 {
-    // Lent as a slice, the tickets are known to be eight.
-    let all: &[u64] = tickets;
-    let ticket = index as u64 + 1;
-    let mut at: usize = SYMBOLS;
-    let mut j: usize = SYMBOLS;
-    while 0 < j {
-        j -= 1;
-        if all[j] == ticket {
+    let ticket = u64::from(index) + 1;
+    let mut at = SYMBOLS;
+    for j in (0..SYMBOLS).rev() {
+        if tickets[j] == ticket {
             at = j;
         }
     }
     at
-}
-
-fn is_named(used: bool, at: u32, index: u32) -> bool
-    ensures { result ≡ cond used (eqb at index) false }
-{
-    if used { at == index } else { false }
 }

@@ -1,31 +1,56 @@
-// The number in turn, stale, and the mark, of the symbol at place k. Past the eighth place there is nobody, and the symbols are handed back as they were.
+// The number in turn, stale, and the mark, of the symbol at place k. Past the eighth place there is nobody, and nothing changes.
 ghost use Rattle.std.specs.Prelude.{◌≡◌, ltb, get_or};
 ghost use Rattle.std.proofs.Math.Option.{none};
 ghost use Rattle.symbols.specs.State.{entry_seen, entries};
-ghost use Rattle.symbols.specs.Turns.{turn_answer, turn_at, standing_of, no_standing, staled, counted_if, restarted, restanding};
+ghost use Rattle.symbols.specs.Answers.{answered, turn_number};
+ghost use Rattle.symbols.specs.Turns.{turn_answer, turn_at, standing_of, no_standing, staled, counted_if, restarted};
 ghost use Rattle.symbols.specs.Promises.{Alters};
+ghost use Rattle.symbols.specs.declared.Standing.{Standing};
 
 use crate::{Place, Standing, Symbols};
 use places::SYMBOLS;
+use std::cmp::Ordering;
 
 // How many numbers a message can carry.
 const NUMBERS: u64 = 4294967296;
 
+// Why a number is not taken: nobody is registered, it was used before, it comes before its turn, or the symbol waits for its clear.
+#[derive(Clone, Copy, PartialEq, Eq)]
+pub enum TurnError {
+    Unknown,
+    Old,
+    Gap,
+    Stale,
+}
+
+// Document 01's number.
+impl From<TurnError> for u8 {
+    ghost from_gives = { λ e n. n ≡ turn_number e };
+
+    fn from(e: TurnError) -> u8 {
+        match e {
+            TurnError::Unknown => 5,
+            TurnError::Old => 6,
+            TurnError::Gap => 7,
+            TurnError::Stale => 8,
+        }
+    }
+}
+
 impl Symbols {
-    // Whether a number is in its turn: 0, or the answer that refuses it; 5 where nobody is registered.
-    pub fn turn_at(self, k: usize, number: u32) -> u8
-        ensures { result ≡ turn_at (get_or (entries self) k none) number }
+    // Whether a number is in its turn.
+    pub fn turn_at(&self, k: usize, number: u32) -> Result<(), TurnError>
+        ensures { answered turn_number result ≡ turn_at (get_or (entries self.now) k none) number }
     {
         if SYMBOLS <= k {
-            return 5;
+            return Err(TurnError::Unknown);
         }
-        let p = self.places[k];
-        turn_of(p, number)
+        turn_of(self.places[k], number)
     }
 
     // Where a symbol stands.
-    pub fn standing(self, k: usize) -> Standing
-        ensures { result ≡ standing_of (get_or (entries self) k none) }
+    pub fn standing(&self, k: usize) -> Standing
+        ensures { result ≡ standing_of (get_or (entries self.now) k none) }
     {
         if SYMBOLS <= k {
             return no_standing();
@@ -38,79 +63,61 @@ impl Symbols {
     }
 
     // The symbol becomes stale, and its record loses the mark.
-    pub fn make_stale(self, k: usize) -> Symbols
-        ensures { Alters self k staled result }
+    pub fn make_stale(&mut self, k: usize)
+        ensures { Alters self.old k staled self.new }
     {
-        let s = self.standing(k);
-        self.set_standing(k, staled(s))
+        self.alter(k, staled);
     }
 
     // A number is used: the next one is expected.
-    pub fn count(self, k: usize, lost: bool) -> Symbols
-        ensures { Alters self k (counted_if lost) result }
+    pub fn count(&mut self, k: usize, lost: bool)
+        ensures { Alters self.old k (counted_if lost) self.new }
     {
-        let s = self.standing(k);
-        self.set_standing(k, counted_if(s, lost))
+        self.alter(k, |s| counted_if(s, lost));
     }
 
     // The symbol isn't stale and expects the number given. Another number than the expected one loses the mark.
-    pub fn restart(self, k: usize, next: u32) -> Symbols
-        ensures { Alters self k (restarted next) result }
+    pub fn restart(&mut self, k: usize, next: u32)
+        ensures { Alters self.old k (restarted next) self.new }
     {
-        let s = self.standing(k);
-        self.set_standing(k, restarted(s, next))
+        self.alter(k, |s| restarted(s, next));
     }
 
-    fn set_standing(mut self, k: usize, s: Standing) -> Symbols
-        ensures { Alters self k (λ t. s) result }
+    // The symbol stands as the change of where it stood says.
+    fn alter<F: Fn(Standing) -> Standing>(&mut self, k: usize, change: F)
+        requires { F.IsAlwaysCallable change }
+        ensures { (s : Standing) × F.post change (standing_of (get_or (entries self.old) k none)) s × Alters self.old k (λ t. s) self.new }
     {
-        if SYMBOLS <= k {
-            return self;
+        let s = change(self.standing(k));
+        if k < SYMBOLS {
+            self.places[k].standing = s;
         }
-        let mut p = self.places[k];
-        p.standing = s;
-        self.places[k] = p;
-        self
     }
 }
 
 // Whether a number is in its turn at a place.
-pub fn turn_of(p: Place, number: u32) -> u8
-    ensures { result ≡ turn_at (entry_seen p) number }
+fn turn_of(p: Place, number: u32) -> Result<(), TurnError>
+    ensures { answered turn_number result ≡ turn_at (entry_seen p) number }
 {
     if p.used {
-        let s = p.standing;
-        return turn(s.stale, s.expected, number);
+        turn(p.standing, number)
+    } else {
+        Err(TurnError::Unknown)
     }
-    5
-}
-
-// A place whose symbol has used a number more.
-pub fn counted(p: Place, lost: bool) -> Place
-    ensures { result ≡ restanding p (counted_if lost p.standing) }
-{
-    let s = p.standing;
-    let next = counted_if(s, lost);
-    let mut q = p;
-    q.standing = next;
-    q
 }
 
 // Stale is tested before the number.
-fn turn(stale: bool, expected: u64, number: u32) -> u8
-    ensures { result ≡ turn_answer stale (ltb number expected) (ltb expected number) }
+fn turn(s: Standing, number: u32) -> Result<(), TurnError>
+    ensures { answered turn_number result ≡ turn_answer s.stale (ltb number s.expected) (ltb s.expected number) }
 {
-    let n = number as u64;
-    if stale {
-        return 8;
+    if s.stale {
+        return Err(TurnError::Stale);
     }
-    if n < expected {
-        return 6;
+    match u64::from(number).cmp(&s.expected) {
+        Ordering::Less => Err(TurnError::Old),
+        Ordering::Equal => Ok(()),
+        Ordering::Greater => Err(TurnError::Gap),
     }
-    if expected < n {
-        return 7;
-    }
-    0
 }
 
 // An empty place counts as stale, and its record as not whole.
@@ -151,7 +158,7 @@ fn counted_if(s: Standing, lost: bool) -> Standing
 fn restarted(s: Standing, next: u32) -> Standing
     ensures { result ≡ restarted next s }
 {
-    let n = next as u64;
+    let n = u64::from(next);
     let mut anew = s;
     anew.stale = false;
     anew.expected = n;

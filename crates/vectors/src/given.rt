@@ -1,83 +1,106 @@
-// What a call gives: numbers, little-endian, and a message made by hand. Past the end of the call every byte is 0.
-use wire::{Answer, Head, Message, PLAIN};
+// The calls that the file lists. docs/VECTORS.md has the fields of each.
+ghost use Rattle.std.specs.Prelude.{◌<◌, IfSome, length};
 
-pub(crate) fn byte_at(c: &[u8], at: usize) -> u8 {
-    if at < c.len() { c[at] } else { 0 }
+use calls::{Field, Room, counted};
+use markets::Market;
+use wire::{Head, Message, PLAIN};
+
+// The most room that a written message is given.
+pub(crate) const ROOM: usize = 128;
+
+// A call. A message that is made by hand has a type; of a type outside the table there is none.
+#[derive(Clone, Copy)]
+pub(crate) enum Call<'a> {
+    Reach {
+        at: usize,
+        bytes: &'a [u8],
+    },
+    Decode {
+        market: Market,
+        bytes: &'a [u8],
+    },
+    Make {
+        market: Market,
+        message: Option<Message>,
+        plain: [u8; PLAIN],
+        room: Room<ROOM>,
+    },
 }
 
-fn join8(low: u8, high: u8) -> u16 {
-    (low as u16) + 256 * (high as u16)
-}
-
-fn join16(low: u16, high: u16) -> u32 {
-    (low as u32) + 65536 * (high as u32)
-}
-
-fn join32(low: u32, high: u32) -> u64 {
-    (low as u64) + 4294967296 * (high as u64)
-}
-
-pub(crate) fn number16(c: &[u8], at: u8) -> u16 {
-    let i = at as usize;
-    join8(byte_at(c, i), byte_at(c, i + 1))
-}
-
-fn number32(c: &[u8], at: u8) -> u32 {
-    let i = at as usize;
-    let low = join8(byte_at(c, i), byte_at(c, i + 1));
-    join16(low, join8(byte_at(c, i + 2), byte_at(c, i + 3)))
-}
-
-fn number64(c: &[u8], at: u8) -> u64 {
-    let i = at as usize;
-    let low = join16(
-        join8(byte_at(c, i), byte_at(c, i + 1)),
-        join8(byte_at(c, i + 2), byte_at(c, i + 3)),
-    );
-    let high = join16(
-        join8(byte_at(c, i + 4), byte_at(c, i + 5)),
-        join8(byte_at(c, i + 6), byte_at(c, i + 7)),
-    );
-    join32(low, high)
-}
-
-pub(crate) fn plain_at(c: &[u8], at: u8) -> [u8; PLAIN] {
-    let base = at as usize;
-    let mut r = [0u8; PLAIN];
-    let mut i = 0;
-    while i < PLAIN {
-        r[i] = byte_at(c, base + i);
-        i += 1;
+// The first of the calls that are left, and those after it. There is none at an unknown letter, where the call is cut short, where a market has another
+// number, and where the room is too much. The match is the file's own table of letters: one of functions would be no plainer, since their fields differ.
+// As in `calls`, each parser says that what is left is shorter.
+pub(crate) fn first_call(listed: &[u8]) -> Option<(Call<'_>, &[u8])>
+    ensures { IfSome result (λ p. length p.1.now < length listed.now) }
+{
+    let (letter, fields) = u8::first(listed)?;
+    match letter {
+        b'R' => reach(fields),
+        b'D' => decode(fields),
+        b'M' => make(fields),
+        _ => None,
     }
-    r
 }
 
-// The fields stand at: market 1, type 2, seconds 4, nanoseconds 8, index 12, number 16, order 20, new order 28, id 36, price 40, volume 44, flag 48, side 49,
-// letter 50, byte array 51, room 104. A type outside the table has no message.
-pub(crate) fn message_at(c: &[u8]) -> Answer {
-    let seconds = number32(c, 4);
-    let head = Head {
-        nanos: number32(c, 8),
-        index: number32(c, 12),
-        number: number32(c, 16),
+fn reach(fields: &[u8]) -> Option<(Call<'_>, &[u8])>
+    ensures { IfSome result (λ p. length p.1.now < length fields.now) }
+{
+    let (at, rest) = u16::first(fields)?;
+    let (bytes, rest) = counted(rest)?;
+    let call = Call::Reach {
+        at: usize::from(at),
+        bytes,
     };
-    let order = number64(c, 20);
-    let new_order = number64(c, 28);
-    let id = number32(c, 36);
-    let price = number32(c, 40);
-    let volume = number32(c, 44);
-    let flag = byte_at(c, 48);
-    let side = byte_at(c, 49);
-    let letter = byte_at(c, 50);
-    match number16(c, 2) {
-        100 => Answer::Message(Message::Add {
+    Some((call, rest))
+}
+
+fn decode(fields: &[u8]) -> Option<(Call<'_>, &[u8])>
+    ensures { IfSome result (λ p. length p.1.now < length fields.now) }
+{
+    let (market, rest) = Market::first(fields)?;
+    let (bytes, rest) = counted(rest)?;
+    Some((Call::Decode { market, bytes }, rest))
+}
+
+fn make(fields: &[u8]) -> Option<(Call<'_>, &[u8])>
+    ensures { IfSome result (λ p. length p.1.now < length fields.now) }
+{
+    let (market, rest) = Market::first(fields)?;
+    let (message, rest) = message(rest)?;
+    let (plain, rest) = rest.split_first_chunk()?;
+    let (room, rest) = Room::first(rest)?;
+    let call = Call::Make {
+        market,
+        message,
+        plain: *plain,
+        room,
+    };
+    Some((call, rest))
+}
+
+fn message(fields: &[u8]) -> Option<(Option<Message>, &[u8])>
+    ensures { IfSome result (λ p. length p.1.now < length fields.now) }
+{
+    let (number, rest) = u16::first(fields)?;
+    let (seconds, rest) = u32::first(rest)?;
+    let (head, rest) = head(rest)?;
+    let (order, rest) = u64::first(rest)?;
+    let (new_order, rest) = u64::first(rest)?;
+    let (id, rest) = u32::first(rest)?;
+    let (price, rest) = u32::first(rest)?;
+    let (volume, rest) = u32::first(rest)?;
+    let (flag, rest) = u8::first(rest)?;
+    let (side, rest) = u8::first(rest)?;
+    let (letter, rest) = u8::first(rest)?;
+    let message = match number {
+        100 => Some(Message::Add {
             head,
             order,
             price,
             volume,
             side,
         }),
-        101 => Answer::Message(Message::Modify {
+        101 => Some(Message::Modify {
             head,
             order,
             price,
@@ -85,8 +108,8 @@ pub(crate) fn message_at(c: &[u8]) -> Answer {
             position: flag,
             side,
         }),
-        102 => Answer::Message(Message::Delete { head, order }),
-        103 => Answer::Message(Message::Execute {
+        102 => Some(Message::Delete { head, order }),
+        103 => Some(Message::Execute {
             head,
             order,
             trade: id,
@@ -94,7 +117,7 @@ pub(crate) fn message_at(c: &[u8]) -> Answer {
             volume,
             printable: flag,
         }),
-        104 => Answer::Message(Message::Replace {
+        104 => Some(Message::Replace {
             head,
             order,
             new_order,
@@ -102,33 +125,48 @@ pub(crate) fn message_at(c: &[u8]) -> Answer {
             volume,
             side,
         }),
-        105 => Answer::Message(Message::Imbalance { head, seconds }),
-        110 => Answer::Message(Message::NonDisplayed {
+        105 => Some(Message::Imbalance { head, seconds }),
+        110 => Some(Message::NonDisplayed {
             head,
             trade: id,
             price,
             volume,
             printable: flag,
         }),
-        111 => Answer::Message(Message::Cross {
+        111 => Some(Message::Cross {
             head,
             cross: id,
             price,
             volume,
             class: letter,
         }),
-        112 => Answer::Message(Message::TradeCancel { head, trade: id }),
-        113 => Answer::Message(Message::CrossCorrection {
+        112 => Some(Message::TradeCancel { head, trade: id }),
+        113 => Some(Message::CrossCorrection {
             head,
             cross: id,
             volume,
         }),
-        114 => Answer::Message(Message::Retail {
+        114 => Some(Message::Retail {
             head,
             indicator: letter,
         }),
-        32 => Answer::Message(Message::Clear { head, seconds }),
-        34 => Answer::Message(Message::Status { head, seconds }),
-        _ => Answer::BadType,
-    }
+        32 => Some(Message::Clear { head, seconds }),
+        34 => Some(Message::Status { head, seconds }),
+        _ => None,
+    };
+    Some((message, rest))
+}
+
+fn head(fields: &[u8]) -> Option<(Head, &[u8])>
+    ensures { IfSome result (λ p. length p.1.now < length fields.now) }
+{
+    let (nanos, rest) = u32::first(fields)?;
+    let (index, rest) = u32::first(rest)?;
+    let (number, rest) = u32::first(rest)?;
+    let head = Head {
+        nanos,
+        index,
+        number,
+    };
+    Some((head, rest))
 }

@@ -1,5 +1,6 @@
 -- The tests of reading and writing decide the clause, so each case is one law. The crates above cite these.
-use mathlib.Core.Path.{◌≡◌, refl, ap, ◌∙◌}
+use Rattle.std.specs.Prelude.{Option, Some, None, Err}
+use mathlib.Core.Path.{◌≡◌, refl, sym, ap, ◌∙◌}
 use mathlib.Core.List.{List, ◌++◌}
 use mathlib.Core.Bool.{Bool, true, false}
 use Prim.Native.Nat.{ℕ, ◌≤◌, ◌<◌}
@@ -9,16 +10,15 @@ use lib.Dec.{ltb}
 use borrow.Author.Tests.{lt-ltb, le-ltb, eq-eqb, ne_eqb, ltb-false}
 use lib.Seq.{take-take, take-append-le}
 use Rattle.wire.specs.declared.table.Layout.{Layout}
-use Rattle.wire.specs.declared.table.Shape.{Shape}
-use Rattle.wire.specs.declared.Fault.{Fault}
 use Rattle.wire.specs.declared.Message.{Message}
+use Rattle.wire.specs.declared.ReachError.{ReachError}
 use Rattle.markets.specs.declared.Market.{Market}
 use Rattle.wire.specs.Outcome.{Outcome, done, refused, only}
 use Rattle.wire.specs.Bytes.{value}
 use Rattle.wire.specs.Table.{shape_of}
 use Rattle.wire.specs.Fields.{fields_at, array_at, array_of, fault_of}
 use Rattle.wire.specs.Message.{fields_of, type_of}
-use Rattle.wire.specs.Reading.{least_size, msg_size, msg_type, reach_by, reach_of, no_message, bad_message, good_read, read_by, read_body, read_sized, read_shape, read_typed, read_reached, read_of}
+use Rattle.wire.specs.Reading.{least_size, msg_size, msg_type, reach_by, reach_of, no_message, bad_message, good_read, read_by, read_body, read_sized, read_shape, read_typed, read_reached, read_of, reached_as, decoded_as, unreached_as}
 use Rattle.wire.specs.Writing.{leaving, refuse, refuse_field, image_of, write_sized, write_by, write_shape, write_of}
 
 -- what is done is not refused
@@ -80,49 +80,54 @@ module _ (market : Market) (s : List ℕ) where
   unfolding read_of read_reached
   read_unreached n e = ap (λ (x : Outcome ℕ). read_reached x market s) e
 
+  -- with the refusal of what is not reached
+  pub read_stopped : (e : ReachError) → reached_as (Err e) ≡ reach_of s → decoded_as (Err (unreached_as e)) ≡ read_of market s
+  read_stopped ReachError.Short e = sym (read_unreached 1 (sym e))
+  read_stopped ReachError.Small e = sym (read_unreached 2 (sym e))
+
   pub read_reached_lem : (size : ℕ) → reach_of s ≡ done size → read_of market s ≡ read_typed market s size
   unfolding read_of read_reached
   read_reached_lem size e = ap (λ (x : Outcome ℕ). read_reached x market s) e
 
-  pub read_unknown : (size : ℕ) → shape_of (msg_type s) ≡ Shape.Unknown → read_typed market s size ≡ no_message 3
+  pub read_unknown : (size : ℕ) → shape_of (msg_type s) ≡ None → read_typed market s size ≡ no_message 3
   unfolding read_typed read_shape
-  read_unknown size e = ap (λ (x : Shape). read_shape x market s size) e
+  read_unknown size e = ap (λ (x : Option Layout). read_shape x market s size) e
 
-  module _ (size : ℕ) (l : Layout) (known : shape_of (msg_type s) ≡ Shape.Known l) where
+  module _ (size : ℕ) (l : Layout) (known : shape_of (msg_type s) ≡ Some l) where
     pub read_other_size : (size ≡ l.size → ⊥) → read_typed market s size ≡ no_message 2
     unfolding read_typed read_shape read_sized
-    read_other_size h = ap (λ (x : Shape). read_shape x market s size) known ∙ rw (ne_eqb _ _ h)
+    read_other_size h = ap (λ (x : Option Layout). read_shape x market s size) known ∙ rw (ne_eqb _ _ h)
 
     pub read_size : size ≡ l.size → read_typed market s size ≡ read_body market s l
     unfolding read_typed read_shape read_sized
-    read_size h = ap (λ (x : Shape). read_shape x market s size) known ∙ rw (eq-eqb _ _ h)
+    read_size h = ap (λ (x : Option Layout). read_shape x market s size) known ∙ rw (eq-eqb _ _ h)
 
-  pub read_bad_field : (l : Layout) (n : ℕ) → fault_of market l (fields_at s l) (array_at s l) ≡ Fault.At n → read_body market s l ≡ bad_message n
+  pub read_bad_field : (l : Layout) (n : ℕ) → fault_of market l (fields_at s l) (array_at s l) ≡ Some n → read_body market s l ≡ bad_message n
   unfolding read_body read_by
-  read_bad_field l n e = ap (λ (f : Fault). read_by f s l) e
+  read_bad_field l n e = ap (λ (f : Option ℕ). read_by f s l) e
 
-  pub read_good : (l : Layout) → fault_of market l (fields_at s l) (array_at s l) ≡ Fault.Nothing → read_body market s l ≡ good_read s l (fields_at s l)
+  pub read_good : (l : Layout) → fault_of market l (fields_at s l) (array_at s l) ≡ None → read_body market s l ≡ good_read s l (fields_at s l)
   unfolding read_body read_by
-  read_good l e = ap (λ (f : Fault). read_by f s l) e
+  read_good l e = ap (λ (f : Option ℕ). read_by f s l) e
 
 -- ---- writing
 module _ (market : Market) (m : Message) (plain out : List ℕ) where
-  pub write_unknown : shape_of (type_of m) ≡ Shape.Unknown → write_of market m plain out ≡ refuse 3 out
+  pub write_unknown : shape_of (type_of m) ≡ None → write_of market m plain out ≡ refuse 3 out
   unfolding write_of write_shape
-  write_unknown h = ap (λ (x : Shape). write_shape x market m plain out) h
+  write_unknown h = ap (λ (x : Option Layout). write_shape x market m plain out) h
 
-  module _ (l : Layout) (known : shape_of (type_of m) ≡ Shape.Known l) where
+  module _ (l : Layout) (known : shape_of (type_of m) ≡ Some l) where
     write_known : write_of market m plain out ≡ write_by (fault_of market l (fields_of m) (array_of l plain)) l m plain out
     unfolding write_of write_shape
-    write_known = ap (λ (x : Shape). write_shape x market m plain out) known
+    write_known = ap (λ (x : Option Layout). write_shape x market m plain out) known
 
-    pub write_bad_field : (n : ℕ) → fault_of market l (fields_of m) (array_of l plain) ≡ Fault.At n → write_of market m plain out ≡ refuse_field n out
+    pub write_bad_field : (n : ℕ) → fault_of market l (fields_of m) (array_of l plain) ≡ Some n → write_of market m plain out ≡ refuse_field n out
     unfolding write_by
-    write_bad_field n k = write_known ∙ ap (λ (x : Fault). write_by x l m plain out) k
+    write_bad_field n k = write_known ∙ ap (λ (x : Option ℕ). write_by x l m plain out) k
 
-    pub write_good : fault_of market l (fields_of m) (array_of l plain) ≡ Fault.Nothing → write_of market m plain out ≡ write_sized (ltb (length out) l.size) l.size (image_of l (type_of m) (fields_of m) plain) out
+    pub write_good : fault_of market l (fields_of m) (array_of l plain) ≡ None → write_of market m plain out ≡ write_sized (ltb (length out) l.size) l.size (image_of l (type_of m) (fields_of m) plain) out
     unfolding write_by
-    write_good k = write_known ∙ ap (λ (x : Fault). write_by x l m plain out) k
+    write_good k = write_known ∙ ap (λ (x : Option ℕ). write_by x l m plain out) k
 
 -- the bytes of a message, where there is room for them and where there is not
 module _ (size : ℕ) (image out : List ℕ) where

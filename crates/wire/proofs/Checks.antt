@@ -1,12 +1,14 @@
 -- The first bad one of the checks stands at the first bad field, since they stand in the order of their offsets.
+use Rattle.std.specs.Prelude.{Option, Some, None}
+use native.Mathlib.Nat.{add-zero}
 use mathlib.Core.Bool.{Bool, true, false, cond, not, false≢true}
 use mathlib.Core.List.{List, [], ◌∷◌}
 use mathlib.Core.Logic.{inl, inr, ⊎_elim, ◌≢◌}
 use mathlib.Core.Path.{◌≡◌, refl, sym, ap, ◌∙◌}
-use Prim.Native.Nat.{ℕ, ◌+◌, ◌-◌, ◌≤◌, ◌<◌}
+use Prim.Native.Nat.{ℕ, zero, suc, ◌+◌, ◌-◌, ◌≤◌, ◌<◌}
 use native.Mathlib.Omega.{arith}
 use lib.Dec.{ltb}
-use lib.ListN.{take, get_or}
+use lib.ListN.{take, drop, get_or}
 use lib.Seq.{get_or-take}
 use borrow.Author.Tests.{ltb-true, ltb-false}
 use Rattle.wire.specs.Bytes.{value_at}
@@ -17,9 +19,7 @@ use Rattle.wire.specs.Message.{fields_of, type_of}
 use Rattle.wire.specs.Reading.{least_size, msg_type}
 use Rattle.wire.specs.FirstBad.{BadAt, GoodBefore, FirstBad}
 use Rattle.wire.specs.declared.table.Layout.{Layout}
-use Rattle.wire.specs.declared.table.Shape.{Shape}
 use Rattle.wire.specs.declared.fields.Fields.{Fields}
-use Rattle.wire.specs.declared.Fault.{Fault}
 use Rattle.wire.specs.declared.Message.{Message}
 use Rattle.markets.specs.declared.Market.{Market}
 use Rattle.wire.proofs.Numbers.{value_empty}
@@ -27,22 +27,22 @@ use Rattle.wire.proofs.Layouts.{AllRows, by_rows, at_row, layout_sane}
 
 -- ---- each check in its turn: a bad one is the first, where those before it are good
 module _ (market : Market) (l : Layout) (f : Fields) (array : List ℕ) where
-  pub nanos_first : nanos_bad f.nanos ≡ true → fault_of market l f array ≡ Fault.At l.form
+  pub nanos_first : nanos_bad f.nanos ≡ true → fault_of market l f array ≡ Some l.form
   unfolding fault_of first_bad
   nanos_first h = rw h
 
   module _ (nanos : nanos_bad f.nanos ≡ false) where
-    pub volume_first : volume_bad l.positive f.volume ≡ true → fault_of market l f array ≡ Fault.At l.volume
+    pub volume_first : volume_bad l.positive f.volume ≡ true → fault_of market l f array ≡ Some l.volume
     unfolding fault_of first_bad
     volume_first h = rw (nanos, h)
 
     module _ (volume : volume_bad l.positive f.volume ≡ false) where
-      pub flag_first : flag_bad f.flag ≡ true → fault_of market l f array ≡ Fault.At l.flag
+      pub flag_first : flag_bad f.flag ≡ true → fault_of market l f array ≡ Some l.flag
       unfolding fault_of first_bad
       flag_first h = rw (nanos, volume, h)
 
       module _ (flag : flag_bad f.flag ≡ false) where
-        pub side_first : side_bad (ltb l.side l.letter) f.side ≡ true → fault_of market l f array ≡ Fault.At l.side
+        pub side_first : side_bad (ltb l.side l.letter) f.side ≡ true → fault_of market l f array ≡ Some l.side
         unfolding fault_of first_bad
         side_first h = rw (nanos, volume, flag, h)
 
@@ -55,28 +55,41 @@ module _ (market : Market) (at : ℕ) (array : List ℕ) where
   abbrev bad : ℕ → Bool
   bad i = not (listed market i (get_or array i 0))
 
-  pub first_condition : bad 0 ≡ true → first_bad (conditions_at true at market array) ≡ Fault.At at
+  pub first_condition : bad 0 ≡ true → first_bad (conditions_at true at market array) ≡ Some at
   unfolding first_bad
   first_condition h = rw h
 
   module _ (one : bad 0 ≡ false) where
-    pub second_condition : bad 1 ≡ true → first_bad (conditions_at true at market array) ≡ Fault.At (at + 1)
+    pub second_condition : bad 1 ≡ true → first_bad (conditions_at true at market array) ≡ Some (at + 1)
     unfolding first_bad
     second_condition h = rw (one, h)
 
     module _ (two : bad 1 ≡ false) where
-      pub third_condition : bad 2 ≡ true → first_bad (conditions_at true at market array) ≡ Fault.At (at + 2)
+      pub third_condition : bad 2 ≡ true → first_bad (conditions_at true at market array) ≡ Some (at + 2)
       unfolding first_bad
       third_condition h = rw (one, two, h)
 
       module _ (three : bad 2 ≡ false) where
-        pub fourth_condition : bad 3 ≡ true → first_bad (conditions_at true at market array) ≡ Fault.At (at + 3)
+        pub fourth_condition : bad 3 ≡ true → first_bad (conditions_at true at market array) ≡ Some (at + 3)
         unfolding first_bad
         fourth_condition h = rw (one, two, three, h)
 
-        pub none_unlisted : bad 3 ≡ false → first_bad (conditions_at true at market array) ≡ Fault.Nothing
+        pub none_unlisted : bad 3 ≡ false → first_bad (conditions_at true at market array) ≡ None
         unfolding first_bad
         none_unlisted h = rw (one, two, three, h)
+
+-- of those from the i-th on the first bad one is that one, or the first of those behind it
+module _ (market : Market) (at : ℕ) (array : List ℕ) where
+  abbrev pub conditions_from : ℕ → Option ℕ
+  conditions_from i = first_bad (drop i (conditions_at true at market array))
+
+  pub next_condition : (i : ℕ) → i < 4 → conditions_from i ≡ cond (not (listed market i (get_or array i 0))) (Some (at + i)) (conditions_from (i + 1))
+  unfolding first_bad
+  next_condition zero h = rw add-zero refl
+  next_condition (suc zero) h = refl
+  next_condition (suc (suc zero)) h = refl
+  next_condition (suc (suc (suc zero))) h = refl
+  next_condition (suc (suc (suc (suc i)))) h = absurd (omega (arith, h))
 
 -- they lie within the array, so that the bytes behind it are not looked at
 pub own_conditions : (market : Market) (l : Layout) → Sane l → (plain : List ℕ) → conditions_at l.coded l.plain market (array_of l plain) ≡ conditions_at l.coded l.plain market plain
@@ -85,6 +98,13 @@ own_conditions market l sane plain = go l.coded (l.pad - l.plain) (omega (arith,
     go : (coded : Bool) (n : ℕ) → conditions_in coded ≤ n → conditions_at coded l.plain market (take n plain) ≡ conditions_at coded l.plain market plain
     go false n h = refl
     go true n h = rw (get_or-take n plain 0 0 (omega (arith, h)), get_or-take n plain 1 0 (omega (arith, h)), get_or-take n plain 2 0 (omega (arith, h)), get_or-take n plain 3 0 (omega (arith, h)))
+
+-- so the first bad field is that of the array with those behind it
+pub own_fault : (market : Market) (l : Layout) → Sane l → (f : Fields) (plain : List ℕ) → fault_of market l f (array_of l plain) ≡ fault_of market l f plain
+unfolding fault_of
+own_fault market l sane f plain =
+    ap (λ (cs : List Check). first_bad (record { at = l.form; bad = nanos_bad f.nanos } ∷ record { at = l.volume; bad = volume_bad l.positive f.volume } ∷ record { at = l.flag; bad = flag_bad f.flag }
+    ∷ record { at = l.side; bad = side_bad (ltb l.side l.letter) f.side } ∷ cs)) (own_conditions market l sane plain)
 
 -- ---- any list of checks whose offsets do not fall
 abbrev Rises : ℕ → List Check → Type 0
@@ -95,22 +115,22 @@ none_before : (n a : ℕ) (cs : List Check) → n ≤ a → Rises a cs → GoodB
 none_before n a [] h r = tt
 none_before n a (c ∷ cs) h r = ((λ below. absurd (omega (arith, h, r.0, below))), none_before n c.at cs (omega (arith, h, r.0)) r.1)
 
-found : (n a : ℕ) (cs : List Check) → Rises a cs → first_bad cs ≡ Fault.At n → BadAt n cs × GoodBefore n cs
+found : (n a : ℕ) (cs : List Check) → Rises a cs → first_bad cs ≡ Some n → BadAt n cs × GoodBefore n cs
 unfolding first_bad
 found n a [] r e = absurd (let z : ◌≡◌ {A = ℕ} 0 1 = cc in omega arith)
 found n a (c ∷ cs) r e = go c.bad refl (found n c.at cs r.1) e
   where
-    go : (b : Bool) → c.bad ≡ b → (first_bad cs ≡ Fault.At n → BadAt n cs × GoodBefore n cs) → cond b (Fault.At c.at) (first_bad cs) ≡ Fault.At n → BadAt n (c ∷ cs) × GoodBefore n (c ∷ cs)
+    go : (b : Bool) → c.bad ≡ b → (first_bad cs ≡ Some n → BadAt n cs × GoodBefore n cs) → cond b (Some c.at) (first_bad cs) ≡ Some n → BadAt n (c ∷ cs) × GoodBefore n (c ∷ cs)
     go true q ih p = let here : c.at ≡ n = cc in
         (inl (here, q), ((λ below. absurd (omega (arith, here, below))), none_before n c.at cs (omega (arith, here)) r.1))
     go false q ih p = (inr (ih p).0, ((λ below. q), (ih p).1))
 
-none_found : (n : ℕ) (cs : List Check) → first_bad cs ≡ Fault.Nothing → BadAt n cs → ⊥
+none_found : (n : ℕ) (cs : List Check) → first_bad cs ≡ None → BadAt n cs → ⊥
 unfolding first_bad
 none_found n [] e b = b
 none_found n (c ∷ cs) e b = go c.bad refl (none_found n cs) e b
   where
-    go : (x : Bool) → c.bad ≡ x → (first_bad cs ≡ Fault.Nothing → BadAt n cs → ⊥) → cond x (Fault.At c.at) (first_bad cs) ≡ Fault.Nothing → BadAt n (c ∷ cs) → ⊥
+    go : (x : Bool) → c.bad ≡ x → (first_bad cs ≡ None → BadAt n cs → ⊥) → cond x (Some c.at) (first_bad cs) ≡ None → BadAt n (c ∷ cs) → ⊥
     go true q ih p b = let z : ◌≡◌ {A = ℕ} 0 1 = cc in omega arith
     go false q ih p b = ⊎_elim (λ x. false≢true (sym q ∙ x.1)) (ih p) b
 
@@ -196,7 +216,7 @@ module _ (market : Market) (l : Layout) (f : Fields) (array : List ℕ) (s : San
       ),
     )
 
-    pub first_bad_lem : (n : ℕ) → fault_of market l f array ≡ Fault.At n → FirstBad market l f array n
+    pub first_bad_lem : (n : ℕ) → fault_of market l f array ≡ Some n → FirstBad market l f array n
     unfolding fault_of
     first_bad_lem n e =
         let x = found n least_size (checks_of market l f array) rises e in
@@ -209,17 +229,17 @@ one_first {market = market} {l = l} {f = f} {array = array} {n = n} {k = k} x y 
     omega (arith, not_before n k (checks_of market l f array) x.bad y.before, not_before k n (checks_of market l f array) y.bad x.before)
 
 -- and none where no check is bad
-pub no_first : {market : Market} {l : Layout} {f : Fields} {array : List ℕ} {n : ℕ} → fault_of market l f array ≡ Fault.Nothing → FirstBad market l f array n → ⊥
+pub no_first : {market : Market} {l : Layout} {f : Fields} {array : List ℕ} {n : ℕ} → fault_of market l f array ≡ None → FirstBad market l f array n → ⊥
 unfolding fault_of
 no_first {market = market} {l = l} {f = f} {array = array} {n = n} e x = none_found n (checks_of market l f array) e x.bad
 
 -- ---- of bytes, and of a typed message
-pub bytes_first : (market : Market) (s : List ℕ) (l : Layout) → shape_of (msg_type s) ≡ Shape.Known l → (n : ℕ) → fault_of market l (fields_at s l) (array_at s l) ≡ Fault.At n → FirstBad market l (fields_at s l) (array_at s l) n
+pub bytes_first : (market : Market) (s : List ℕ) (l : Layout) → shape_of (msg_type s) ≡ Some l → (n : ℕ) → fault_of market l (fields_at s l) (array_at s l) ≡ Some n → FirstBad market l (fields_at s l) (array_at s l) n
 bytes_first market s l known n e =
     first_bad_lem market l (fields_at s l) (array_at s l) (layout_sane (msg_type s) l known) (by_rows HasVolume table_volumes (msg_type s) l known)
     (λ same. ap (λ (e : ℕ). value_at s l.flag e) (sym same) ∙ value_empty s l.flag) n e
 
-no_flag : (m : Message) (l : Layout) → shape_of (type_of m) ≡ Shape.Known l → l.flag ≡ l.side → (fields_of m).flag ≡ 0
+no_flag : (m : Message) (l : Layout) → shape_of (type_of m) ≡ Some l → l.flag ≡ l.side → (fields_of m).flag ≡ 0
 unfolding shape_of
 no_flag (Message.Add h o p v s) l e same = refl
 no_flag (Message.Modify h o p v t s) l e same = absurd (at_row (λ (l : Layout). l.flag ≢ l.side) 101 l e (λ q. omega (arith, q)) same)
@@ -235,6 +255,6 @@ no_flag (Message.Retail h c) l e same = refl
 no_flag (Message.Clear h s) l e same = refl
 no_flag (Message.Status h s) l e same = refl
 
-pub message_first : (market : Market) (m : Message) (plain : List ℕ) (l : Layout) → shape_of (type_of m) ≡ Shape.Known l → (n : ℕ) → fault_of market l (fields_of m) (array_of l plain) ≡ Fault.At n → FirstBad market l (fields_of m) (array_of l plain) n
+pub message_first : (market : Market) (m : Message) (plain : List ℕ) (l : Layout) → shape_of (type_of m) ≡ Some l → (n : ℕ) → fault_of market l (fields_of m) (array_of l plain) ≡ Some n → FirstBad market l (fields_of m) (array_of l plain) n
 message_first market m plain l known n e =
     first_bad_lem market l (fields_of m) (array_of l plain) (layout_sane (type_of m) l known) (by_rows HasVolume table_volumes (type_of m) l known) (no_flag m l known) n e

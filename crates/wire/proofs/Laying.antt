@@ -1,44 +1,16 @@
 -- Numbers stored one after the other leave their bytes, and what lies behind them as it was.
 use mathlib.Core.Path.{◌≡◌, refl, sym, ap, ◌∙◌}
 use mathlib.Core.List.{List, [], ◌∷◌, ◌++◌, append_assoc, append-nil}
-use Prim.Native.Nat.{ℕ, ◌+◌, ◌-◌, ◌≤◌, ◌<◌}
-use native.Mathlib.Numerals.{add-one}
+use Prim.Native.Nat.{ℕ, ◌+◌, ◌-◌, ◌≤◌}
 use native.Mathlib.Omega.{arith}
-use lib.ListN.{length, take, drop, get_or, length-append, drop_of_length-le}
-use lib.Seq.{take_at, drop_at, drop-drop, drop-cons, length-take-le}
+use lib.ListN.{length, take, drop, length-append}
+use lib.Seq.{take_at, drop_at, drop-drop, length-take-le}
 use Rattle.wire.specs.Bytes.{little_endian, splice, plain_room, stored, Rising, bytes_of}
 use Rattle.wire.specs.declared.table.Layout.{Layout}
 use Rattle.wire.specs.declared.fields.Fields.{Fields}
 use Rattle.wire.specs.Fields.{Sane, ends_of, values_of}
 use Rattle.wire.specs.Writing.{image_of}
 use Rattle.wire.proofs.Numbers.{length_little_endian}
-
--- ---- one turn of the writer's loop
-
-stored_next : (a i : ℕ) (ends v out : List ℕ) → i < length ends → i < length v →
-    stored a (drop i ends) (drop i v) out ≡ stored (get_or ends i 0) (drop (i + 1) ends) (drop (i + 1) v) (splice out a (get_or ends i 0) (little_endian (get_or ends i 0 - a) (get_or v i 0)))
-stored_next a i ends v out h k = rw (add-one i, drop-cons ends i 0 h, drop-cons v i 0 k)
-
-pub rising_next : (a i n : ℕ) (ends : List ℕ) → i < length ends → Rising a (drop i ends) n →
-    (a ≤ get_or ends i 0) × (get_or ends i 0 ≤ n) × Rising (get_or ends i 0) (drop (i + 1) ends) n
-rising_next a i n ends h r = rw (add-one i) (rw (drop-cons ends i 0 h) at r)
-
--- after some of the stores: the rest of them over what is there now come to all of them over what was there
-pub record Storing (out₀ ends v out : List ℕ) (a i : ℕ) : Type 0 where
-  pub long : length out ≡ length out₀
-  pub rises : Rising a (drop i ends) (length out₀)
-  pub rest : stored a (drop i ends) (drop i v) out ≡ stored 0 ends v out₀
-
-pub storing_next : (out₀ ends v out next : List ℕ) (a i : ℕ) → i < length ends → i < length v → length next ≡ length out →
-    next ≡ splice out a (get_or ends i 0) (little_endian (get_or ends i 0 - a) (get_or v i 0)) → Storing out₀ ends v out a i → Storing out₀ ends v next (get_or ends i 0) (i + 1)
-storing_next out₀ ends v out next a i h k long e s = record {
-  long = long ∙ s.long;
-  rises = (rising_next a i (length out₀) ends h s.rises).2;
-  rest = ap (stored (get_or ends i 0) (drop (i + 1) ends) (drop (i + 1) v)) e ∙ sym (stored_next a i ends v out h k) ∙ s.rest;
-}
-
-pub storing_over : (out₀ ends v out : List ℕ) (a i : ℕ) → length ends ≤ i → Storing out₀ ends v out a i → out ≡ stored 0 ends v out₀
-storing_over out₀ ends v out a i h s = rw (drop_of_length-le ends h) at s.rest
 
 -- ---- the first a places of cur are pre, and the others are as they were
 record Filled (out : List ℕ) (a : ℕ) (pre cur : List ℕ) : Type 0 where

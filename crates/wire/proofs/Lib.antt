@@ -7,6 +7,7 @@ pub mod Ways
 pub mod Rows
 pub mod Images
 pub mod RoundTrip
+pub mod Told
 pub mod OneOutcome
 pub mod Checks
 pub mod Offsets

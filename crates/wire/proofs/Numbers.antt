@@ -1,13 +1,17 @@
 -- A number is its first byte and 256 times the rest, so reading and writing go one byte at a time, over every width.
 use mathlib.Core.Path.{◌≡◌, refl, sym, ap, ◌∙◌}
-use mathlib.Core.List.{List, [], ◌∷◌, ◌++◌, append-nil}
+use mathlib.Core.List.{List, [], ◌∷◌}
 use Prim.Native.Nat.{ℕ, zero, suc, ◌+◌, ◌*◌, ◌-◌, ◌/◌, ◌%◌, ◌^◌, ◌≤◌, ◌<◌}
-use native.Mathlib.Nat.{zero-add, one-mul, mul_comm, mul_assoc, pow-zero, pow-suc, pow-le-pow_right}
-use native.Mathlib.Numerals.{add-one}
+use native.Mathlib.Nat.{pow-suc}
 use native.Mathlib.Omega.{arith}
-use lib.ListN.{length, take, drop, set, get_or, take-append-drop}
-use lib.Seq.{slice, slice-cons, slice_empty, length-slice, take-suc-set, append_snoc}
-use Rattle.wire.specs.Bytes.{value, little_endian, value_at}
+use lib.ListN.{length, take, drop, get_or}
+use lib.Seq.{take-length, slice, slice-cons, slice_empty, length-slice}
+use Rattle.std.specs.Int.{byte_worth, sum_through, bytes_low_first}
+use Rattle.std.proofs.Math.Nat.{div-div-eq-div-mul}
+use Rattle.wire.specs.Bytes.{value, little_endian, value_at, IsField}
+use Rattle.std.specs.Prelude.{Result, Ok, Err, IsOk, MatchResult, ◌≢◌}
+use Rattle.std.specs.Array.{IsWholeChunk}
+use mathlib.Core.Logic.{⊎_elim}
 use Rattle.wire.specs.RoundTrip.{Bytes}
 
 -- ---- reading from the last byte to the first
@@ -25,63 +29,75 @@ value_before s i e p h k =
     let q : suc (i - 1) ≡ i = omega arith in
     sym (value_cons s (i - 1) e (omega arith) k ∙ ap (λ (j : ℕ). get_or s (i - 1) 0 + 256 * value_at s j e) q)
 
--- ---- bytes written out
-
-pub value_one : (s : List ℕ) (a e : ℕ) → a < e → e ≤ a + 1 → e ≤ length s → get_or s a 0 ≡ value_at s a e
-value_one s a e h l k = let q : suc a ≡ e = omega (arith, h, l) in sym (value_cons s a e h k ∙ rw (q, value_empty s e) (omega arith))
-
-pub value_two : (s : List ℕ) (a : ℕ) → a + 2 ≤ length s → get_or s a 0 + 256 * get_or s (a + 1) 0 ≡ value_at s a (a + 2)
-value_two s a k =
-    let q : suc a ≡ a + 1 = omega arith in
-    sym (value_cons s a (a + 2) (omega arith) k ∙ rw q (ap (λ (x : ℕ). get_or s a 0 + 256 * x) (sym (value_one s (a + 1) (a + 2) (omega arith) (omega arith) k))))
-
--- two parts, the first of w bytes
-value_joined : (s : List ℕ) (w a m e : ℕ) → a + w ≡ m → m ≤ e → e ≤ length s → value_at s a m + 256 ^ w * value_at s m e ≡ value_at s a e
-value_joined s zero a m e p h k = let q : a ≡ m = omega (arith, p) in rw (q, value_empty s m, zero-add, pow-zero, one-mul)
-value_joined s (suc w) a m e p h k =
-    let ih = value_joined s w (suc a) m e (omega (arith, p)) h k in
-    let x = value_cons s a m (omega (arith, p)) (omega (arith, h, k)) in
-    let y = value_cons s a e (omega (arith, p, h)) k in
-    rw (pow-suc, mul_comm (256 ^ w) 256, mul_assoc) (omega (arith, ih, x, y))
-
-pub value_four : (s : List ℕ) (a : ℕ) → a + 4 ≤ length s → value_at s a (a + 2) + 65536 * value_at s (a + 2) (a + 2 + 2) ≡ value_at s a (a + 4)
-value_four s a k = let q : a + 2 + 2 ≡ a + 4 = omega arith in rw q (value_joined s 2 a (a + 2) (a + 4) refl (omega arith) k)
-
-pub value_eight : (s : List ℕ) (a : ℕ) → a + 8 ≤ length s → value_at s a (a + 4) + 4294967296 * value_at s (a + 4) (a + 4 + 4) ≡ value_at s a (a + 8)
-value_eight s a k = let q : a + 4 + 4 ≡ a + 8 = omega arith in rw q (value_joined s 4 a (a + 4) (a + 8) refl (omega arith) k)
-
--- ---- how large a number is
-
-pub below_with_one_more : (b r i e : ℕ) → 0 < i → i ≤ e → b < 256 → r < 256 ^ (e - i) → b + 256 * r < 256 ^ (e - (i - 1))
-below_with_one_more b r i e p h hb hr =
-    let q : e - (i - 1) ≡ suc (e - i) = omega arith in
-    rw q (rw pow-suc (omega arith))
-
--- a number of at most w bytes is below 256 to the w
-pub below_width : (w : ℕ) {r k : ℕ} → r < 256 ^ k → k ≤ w → r < 256 ^ w
-below_width w {r} {k} h l = let m : 256 ^ k ≤ 256 ^ w = pow-le-pow_right {n = 256} (omega arith) l in omega arith
-
--- ---- writing from the first byte to the last
-
-pub little_endian_next : (out rest : List ℕ) (i e x : ℕ) → i < length out → i < e →
-    take (i + 1) (set out i (x % 256)) ++ little_endian (e - (i + 1)) (x / 256) ++ rest ≡ take i out ++ little_endian (e - i) x ++ rest
-unfolding little_endian
-little_endian_next out rest i e x h k =
-    let q : e - i ≡ suc (e - (i + 1)) = omega arith in
-    rw q (rw (add-one i) (ap (λ (l : List ℕ). l ++ rest)
-    (ap (λ (l : List ℕ). l ++ little_endian (e - suc i) (x / 256)) (take-suc-set out i (x % 256) h)
-    ∙ append_snoc (take i out) (x % 256) (little_endian (e - suc i) (x / 256)))))
-
-pub little_endian_over : (out out₀ : List ℕ) (i e x : ℕ) → i ≡ e → drop e out ≡ drop e out₀ → out ≡ take i out ++ little_endian (e - i) x ++ drop e out₀
-unfolding little_endian
-little_endian_over out out₀ i e x p q =
-    let z : e - e ≡ 0 = omega arith in
-    rw (p, z, append-nil, ← q) (sym (take-append-drop e out))
+-- ---- writing
 
 pub length_little_endian : (w v : ℕ) → length (little_endian w v) ≡ w
 unfolding little_endian
 length_little_endian zero v = refl
 length_little_endian (suc w) v = ap suc (length_little_endian w (v / 256))
+
+-- ---- the library's numbers: they are worth the same, and their bytes are the same
+worth_next : (i b : ℕ) → byte_worth (suc i) b ≡ 256 * byte_worth i b
+worth_next zero b = omega arith
+worth_next (suc i) b = rw pow-suc (omega arith)
+
+sum_shifted : (f : ℕ → ℕ) (k : ℕ) → sum_through f (suc k) ≡ f 0 + sum_through (λ i. f (suc i)) k
+sum_shifted f zero = refl
+sum_shifted f (suc k) = omega (arith, sum_shifted f k)
+
+sum_scaled : (f g : ℕ → ℕ) → ((i : ℕ) → f i ≡ 256 * g i) → (k : ℕ) → sum_through f k ≡ 256 * sum_through g k
+sum_scaled f g h zero = h 0
+sum_scaled f g h (suc k) = omega (arith, h (suc k), sum_scaled f g h k)
+
+pub value_through : (bs : List ℕ) (k : ℕ) → length bs ≡ suc k → sum_through (λ i. byte_worth i (get_or bs i 0)) k ≡ value bs
+unfolding value
+value_through [] k h = absurd (omega (arith, h))
+value_through (b ∷ []) zero h = omega arith
+value_through (b ∷ []) (suc k) h = absurd (omega (arith, h))
+value_through (b ∷ c ∷ bs) zero h = absurd (omega (arith, h))
+value_through (b ∷ c ∷ bs) (suc k) h =
+    sum_shifted (λ i. byte_worth i (get_or (b ∷ c ∷ bs) i 0)) k
+    ∙ ap (λ (x : ℕ). b + x) (sum_scaled (λ i. byte_worth (suc i) (get_or (c ∷ bs) i 0)) (λ i. byte_worth i (get_or (c ∷ bs) i 0)) (λ i. worth_next i (get_or (c ∷ bs) i 0)) k
+    ∙ ap (λ (x : ℕ). 256 * x) (value_through (c ∷ bs) k (omega (arith, h))))
+
+power_next : (i n : ℕ) → n / 256 ^ i / 256 ≡ n / 256 ^ suc i
+power_next i n = div-div-eq-div-mul n (256 ^ i) 256 ∙ ap (λ (x : ℕ). n / x) (sym (pow-suc 256 i))
+
+over_one : (n : ℕ) → n / 256 ^ 0 ≡ n
+over_one n = omega arith
+
+bytes_from : (i k n : ℕ) → little_endian k (n / 256 ^ i) ≡ bytes_low_first i k n
+unfolding little_endian
+bytes_from i zero n = refl
+bytes_from zero (suc k) n = λ j. (over_one n j % 256) ∷ (ap (little_endian k) (power_next 0 n) ∙ bytes_from 1 k n) j
+bytes_from (suc i) (suc k) n = ap (λ (l : List ℕ). n / 256 ^ suc i % 256 ∷ l) (ap (little_endian k) (power_next (suc i) n) ∙ bytes_from (suc (suc i)) k n)
+
+pub bytes_low : (k n : ℕ) → bytes_low_first 0 k n ≡ little_endian k n
+bytes_low k n = sym (bytes_from 0 k n) ∙ ap (little_endian k) (over_one n)
+
+-- no bytes are 0, and 0 bytes are none
+value_none : (l : List ℕ) → length l ≡ 0 → value l ≡ 0
+unfolding value
+value_none [] h = refl
+value_none (x ∷ l) h = absurd (omega (arith, h))
+
+take_whole : (l : List ℕ) (n : ℕ) → length l ≡ n → take n l ≡ l
+take_whole l n h = rw (← h) (take-length l)
+
+-- so the library reads a field, and writes it
+pub field_read : {E : Type 0} (w : ℕ) (field : List ℕ) (bytes : Result (List ℕ) E) (n : ℕ) → 0 < w → IsField w (length field)
+    → (length field ≡ w → IsOk bytes) × MatchResult bytes (λ y. IsWholeChunk field y w) (λ _. length field ≢ w)
+    → MatchResult bytes (λ y. n ≡ sum_through (λ i. byte_worth i (get_or y i 0)) (w - 1)) (λ _. n ≡ 0) → n ≡ value field
+field_read w field (Ok y) n some is whole found =
+    found ∙ ap (λ (l : List ℕ). sum_through (λ i. byte_worth i (get_or l i 0)) (w - 1)) whole.1.same ∙ value_through field (w - 1) (omega (arith, some, whole.1.long))
+field_read w field (Err e) n some is whole none = ⊎_elim (λ full. absurd (whole.1 full)) (λ empty. none ∙ sym (value_none field empty)) is
+
+part_laid : (w v n : ℕ) → IsField w n → take n (little_endian w v) ≡ little_endian n v
+unfolding little_endian
+part_laid w v n = ⊎_elim (λ full. rw full (take_whole (little_endian w v) w (length_little_endian w v))) (λ empty. rw empty refl)
+
+pub field_laid : (w v : ℕ) (field laid bytes : List ℕ) → IsField w (length field) → bytes ≡ bytes_low_first 0 w v → laid ≡ take (length field) bytes → laid ≡ little_endian (length field) v
+field_laid w v field laid bytes is all part = part ∙ ap (take (length field)) (all ∙ bytes_low w v) ∙ part_laid w v (length field) is
 
 -- ---- there and back
 

@@ -1,4 +1,5 @@
 -- By the way that a read, a test or a write went: with a bad field 4 is answered, with the offset of the first one, and with every other answer the offset is 0.
+use Rattle.std.specs.Prelude.{Option, Some, None}
 use mathlib.Core.List.{List}
 use mathlib.Core.Logic.{◌≢◌}
 use mathlib.Core.Path.{◌≡◌, refl, sym, ap, ◌∙◌, subst}
@@ -12,8 +13,6 @@ use Rattle.wire.specs.Reading.{msg_type, reach_of, Read, read_of}
 use Rattle.wire.specs.Writing.{Write, write_of}
 use Rattle.wire.specs.FirstBad.{FirstBad, FirstBadIn, FirstBadOf, Locates}
 use Rattle.wire.specs.declared.table.Layout.{Layout}
-use Rattle.wire.specs.declared.table.Shape.{Shape}
-use Rattle.wire.specs.declared.Fault.{Fault}
 use Rattle.wire.specs.declared.Message.{Message}
 use Rattle.markets.specs.declared.Market.{Market}
 use Rattle.wire.proofs.Cases.{done_is_not_refused}
@@ -30,10 +29,10 @@ module _ (First : ℕ → Type 0) where
   locates_at n f one = record { bad_field = λ four. f; answered = λ k g. (refl, one k g); no_field = λ other. absurd (other refl) }
 
 -- a type has one layout
-same_layout : {x : Shape} {l k : Layout} → x ≡ Shape.Known l → x ≡ Shape.Known k → l ≡ k
+same_layout : {x : Option Layout} {l k : Layout} → x ≡ Some l → x ≡ Some k → l ≡ k
 same_layout p q = let e = sym p ∙ q in cc
 
-no_layout : {x : Shape} {l : Layout} → x ≡ Shape.Unknown → x ≡ Shape.Known l → ⊥
+no_layout : {x : Option Layout} {l : Layout} → x ≡ None → x ≡ Some l → ⊥
 no_layout p q = let e = sym p ∙ q in let z : ◌≡◌ {A = ℕ} 0 1 = cc in omega arith
 
 same_size : {n k : ℕ} → ◌≡◌ {A = Outcome ℕ} (done n) (done k) → n ≡ k
@@ -41,10 +40,10 @@ same_size e = cc
 
 -- ---- reading
 module _ (market : Market) (s : List ℕ) where
-  under : (l : Layout) → shape_of (msg_type s) ≡ Shape.Known l → (n : ℕ) → FirstBadIn market s n → FirstBad market l (fields_at s l) (array_at s l) n
+  under : (l : Layout) → shape_of (msg_type s) ≡ Some l → (n : ℕ) → FirstBadIn market s n → FirstBad market l (fields_at s l) (array_at s l) n
   under l known n x = subst (λ (y : Layout). FirstBad market y (fields_at s y) (array_at s y) n) (same_layout x.known known) x.first
 
-  sized : (size : ℕ) (l : Layout) → reach_of s ≡ done size → shape_of (msg_type s) ≡ Shape.Known l → (n : ℕ) → FirstBadIn market s n → size ≡ l.size
+  sized : (size : ℕ) (l : Layout) → reach_of s ≡ done size → shape_of (msg_type s) ≡ Some l → (n : ℕ) → FirstBadIn market s n → size ≡ l.size
   sized size l there known n x =
       let same : size ≡ x.layout.size = same_size (sym there ∙ x.there) in
       same ∙ ap (λ (y : Layout). y.size) (same_layout x.known known)
@@ -63,15 +62,15 @@ module _ (market : Market) (s : List ℕ) where
 
 -- ---- a typed message
 module _ (market : Market) (m : Message) (plain : List ℕ) where
-  under_type : (l : Layout) → shape_of (type_of m) ≡ Shape.Known l → (n : ℕ) → FirstBadOf market m plain n → FirstBad market l (fields_of m) (array_of l plain) n
+  under_type : (l : Layout) → shape_of (type_of m) ≡ Some l → (n : ℕ) → FirstBadOf market m plain n → FirstBad market l (fields_of m) (array_of l plain) n
   under_type l known n x = subst (λ (y : Layout). FirstBad market y (fields_of m) (array_of y plain) n) (same_layout x.known known) x.first
 
-  located : (l : Layout) → shape_of (type_of m) ≡ Shape.Known l → (n : ℕ) → fault_of market l (fields_of m) (array_of l plain) ≡ Fault.At n → Locates (FirstBadOf market m plain) 4 n
+  located : (l : Layout) → shape_of (type_of m) ≡ Some l → (n : ℕ) → fault_of market l (fields_of m) (array_of l plain) ≡ Some n → Locates (FirstBadOf market m plain) 4 n
   located l known n e =
       let first = message_first market m plain l known n e in
       locates_at (FirstBadOf market m plain) n (record { layout = l; known = known; first = first }) (λ k x. one_first first (under_type l known k x))
 
-  unlocated : (l : Layout) → shape_of (type_of m) ≡ Shape.Known l → fault_of market l (fields_of m) (array_of l plain) ≡ Fault.Nothing → (number : ℕ) → number ≢ 4 → Locates (FirstBadOf market m plain) number 0
+  unlocated : (l : Layout) → shape_of (type_of m) ≡ Some l → fault_of market l (fields_of m) (array_of l plain) ≡ None → (number : ℕ) → number ≢ 4 → Locates (FirstBadOf market m plain) number 0
   unlocated l known e number other = locates_none (FirstBadOf market m plain) number other (λ k x. no_first e (under_type l known k x))
 
   -- tested
@@ -79,13 +78,13 @@ module _ (market : Market) (m : Message) (plain : List ℕ) where
   unfolding fault_in
   field_locates = by_shape (shape_of (type_of m)) refl
     where
-      by_fault : (l : Layout) → shape_of (type_of m) ≡ Shape.Known l → (x : Fault) → fault_of market l (fields_of m) (array_of l plain) ≡ x → Locates (FirstBadOf market m plain) (number_of (fault_as x).outcome) (fault_as x).offset
-      by_fault l known Fault.Nothing e = unlocated l known e 0 (λ z. omega (arith, z))
-      by_fault l known (Fault.At n) e = located l known n e
+      by_fault : (l : Layout) → shape_of (type_of m) ≡ Some l → (x : Option ℕ) → fault_of market l (fields_of m) (array_of l plain) ≡ x → Locates (FirstBadOf market m plain) (number_of (fault_as x).outcome) (fault_as x).offset
+      by_fault l known None e = unlocated l known e 0 (λ z. omega (arith, z))
+      by_fault l known (Some n) e = located l known n e
 
-      by_shape : (x : Shape) → shape_of (type_of m) ≡ x → Locates (FirstBadOf market m plain) (number_of (fault_as (fault_under x market m plain)).outcome) (fault_as (fault_under x market m plain)).offset
-      by_shape Shape.Unknown e = locates_none (FirstBadOf market m plain) 0 (λ z. omega (arith, z)) (λ k x. no_layout e x.known)
-      by_shape (Shape.Known l) e = by_fault l e (fault_of market l (fields_of m) (array_of l plain)) refl
+      by_shape : (x : Option Layout) → shape_of (type_of m) ≡ x → Locates (FirstBadOf market m plain) (number_of (fault_as (fault_under x market m plain)).outcome) (fault_as (fault_under x market m plain)).offset
+      by_shape None e = locates_none (FirstBadOf market m plain) 0 (λ z. omega (arith, z)) (λ k x. no_layout e x.known)
+      by_shape (Some l) e = by_fault l e (fault_of market l (fields_of m) (array_of l plain)) refl
 
   -- written
   pub write_locates : (out : List ℕ) → Locates (FirstBadOf market m plain) (number_of (write_of market m plain out).outcome) (write_of market m plain out).offset

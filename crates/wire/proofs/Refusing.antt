@@ -1,4 +1,5 @@
 -- A refusal has its clause's number, hands back no message or leaves the buffer; the clause that is done lays its bytes before what stood behind them.
+use Rattle.std.specs.Prelude.{None}
 use mathlib.Core.Bool.{Bool, true, false}
 use mathlib.Core.List.{List}
 use mathlib.Core.Path.{◌≡◌, refl, sym, ap, ◌∙◌, subst}
@@ -13,7 +14,6 @@ use Rattle.wire.specs.Table.{shape_of}
 use Rattle.wire.specs.Message.{fields_of, type_of}
 use Rattle.wire.specs.Reading.{least_size, msg_size, reach_by, reach_of, Read, read_of}
 use Rattle.wire.specs.Writing.{Write, Fills, image_of, write_of}
-use Rattle.wire.specs.declared.table.Shape.{Shape}
 use Rattle.wire.specs.declared.Message.{Message}
 use Rattle.markets.specs.declared.Market.{Market}
 use Rattle.wire.proofs.Cases.{done_is_not_refused, reached, reach_size, own_size}
@@ -71,7 +71,7 @@ reached_refused P size type field market s n e = by_way P size type field market
 
 -- ---- writing: what holds of 4 and 15 holds of a refusal, and it leaves the buffer
 module _ (market : Market) (m : Message) (plain out : List ℕ) where
-  known_type : shape_of (type_of m) ≡ Shape.Unknown → ⊥
+  known_type : shape_of (type_of m) ≡ None → ⊥
   known_type e = subst IsKnown e (type_known m)
 
   pub write_refused : (P : ℕ → Type 0) → P 4 → P 15 → (n : ℕ) → (write_of market m plain out).outcome ≡ refused n → P n

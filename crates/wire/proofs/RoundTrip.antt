@@ -1,12 +1,11 @@
 -- Demand 2's round trips hold since the fields of a message fit the layout of its type, and the bytes of a layout are read where they are written.
+use Rattle.std.specs.Prelude.{Option, Some, None}
 use mathlib.Core.Path.{◌≡◌, refl, sym, ap, ◌∙◌, subst}
 use mathlib.Core.List.{List, ◌++◌}
 use Prim.Native.Nat.{ℕ, ◌-◌, ◌≤◌}
 use native.Mathlib.Omega.{arith}
 use lib.ListN.{length, take, drop}
 use Rattle.wire.specs.declared.table.Layout.{Layout}
-use Rattle.wire.specs.declared.table.Shape.{Shape}
-use Rattle.wire.specs.declared.Fault.{Fault}
 use Rattle.wire.specs.declared.Message.{Message}
 use Rattle.markets.specs.declared.Market.{Market}
 use Rattle.wire.specs.Outcome.{done, only}
@@ -32,7 +31,7 @@ record Suits (m : Message) (l : Layout) : Type 0 where
   pub fit : WithinWidths 0 (ends_of l) (values_of l.size (type_of m) (fields_of m))
   pub again : message_of l.kind (fields_of m) ≡ m
 
-suits : (m : Message) (l : Layout) → shape_of (type_of m) ≡ Shape.Known l → InRange (fields_of m) → Suits m l
+suits : (m : Message) (l : Layout) → shape_of (type_of m) ≡ Some l → InRange (fields_of m) → Suits m l
 unfolding shape_of
 suits (Message.Add h o p v s) l e w = at_row (Suits (Message.Add h o p v s)) 100 l e (record { fit = omega arith; again = refl })
 suits (Message.Modify h o p v t s) l e w = at_row (Suits (Message.Modify h o p v t s)) 101 l e (record { fit = omega arith; again = refl })
@@ -56,13 +55,13 @@ pub record Keeps (n : ℕ) (l : Layout) : Type 0 where
 kept_row : AllRows Keeps table
 kept_row = (record { type = λ s. refl; fields = λ s. simp value_empty }, (record { type = λ s. refl; fields = λ s. simp value_empty }, (record { type = λ s. refl; fields = λ s. simp value_empty }, (record { type = λ s. refl; fields = λ s. simp value_empty }, (record { type = λ s. refl; fields = λ s. simp value_empty }, (record { type = λ s. refl; fields = λ s. simp value_empty }, (record { type = λ s. refl; fields = λ s. simp value_empty }, (record { type = λ s. refl; fields = λ s. simp value_empty }, (record { type = λ s. refl; fields = λ s. simp value_empty }, (record { type = λ s. refl; fields = λ s. simp value_empty }, (record { type = λ s. refl; fields = λ s. simp value_empty }, (record { type = λ s. refl; fields = λ s. simp value_empty }, (record { type = λ s. refl; fields = λ s. simp value_empty }, tt)))))))))))))
 
-pub keeps : (n : ℕ) (l : Layout) → shape_of n ≡ Shape.Known l → Keeps n l
+pub keeps : (n : ℕ) (l : Layout) → shape_of n ≡ Some l → Keeps n l
 keeps = by_rows Keeps kept_row
 
 -- ---- reading what was written
 
 module _ (market : Market) (m : Message) (plain out : List ℕ) (long : length plain ≡ plain_room) (w : InRange (fields_of m)) where
-  module _ (l : Layout) (known : shape_of (type_of m) ≡ Shape.Known l) (good : fault_of market l (fields_of m) (array_of l plain) ≡ Fault.Nothing) where
+  module _ (l : Layout) (known : shape_of (type_of m) ≡ Some l) (good : fault_of market l (fields_of m) (array_of l plain) ≡ None) where
     read_image : (rest : List ℕ) → read_of market (image_of l (type_of m) (fields_of m) plain ++ rest) ≡ read_as (only (done m)) (padded_plain (take (l.pad - l.plain) plain))
     read_image rest =
         let f = fields_of m in
@@ -88,7 +87,7 @@ module _ (market : Market) (m : Message) (plain out : List ℕ) (long : length p
       go _ (bad_field known q) e = absurd (done_is_not_refused e)
       go _ (no_room known good short) e = absurd (done_is_not_refused e)
       go _ (all_written {l = l} known good fits) e =
-          read_image l known good (drop l.size out) ∙ ap (λ (x : Shape). read_as (only (done m)) (padded_plain (take (array_width x) plain))) (sym known)
+          read_image l known good (drop l.size out) ∙ ap (λ (x : Option Layout). read_as (only (done m)) (padded_plain (take (array_width x) plain))) (sym known)
 
 -- ---- writing what was read
 
@@ -96,8 +95,8 @@ module _ (market : Market) (s : List ℕ) (bytes : Bytes s) (m : Message) (out :
   abbrev WroteAll : Read → Type 0
   WroteAll r = write_of market m r.plain out ≡ leaving (only (done (msg_size s))) (take (msg_size s) s ++ drop (msg_size s) out)
 
-  module _ (l : Layout) (known : shape_of (msg_type s) ≡ Shape.Known l) (size : msg_size s ≡ l.size) (there : msg_size s ≤ length s) (room : msg_size s ≤ length out) where
-    wrote_all : fault_of market l (fields_at s l) (array_at s l) ≡ Fault.Nothing → message_of l.kind (fields_at s l) ≡ m → ReservedZero (Shape.Known l) s → WroteAll (good_read s l (fields_at s l))
+  module _ (l : Layout) (known : shape_of (msg_type s) ≡ Some l) (size : msg_size s ≡ l.size) (there : msg_size s ≤ length s) (room : msg_size s ≤ length out) where
+    wrote_all : fault_of market l (fields_at s l) (array_at s l) ≡ None → message_of l.kind (fields_at s l) ≡ m → ReservedZero (Some l) s → WroteAll (good_read s l (fields_at s l))
     wrote_all good is zero =
         let kept = keeps (msg_type s) l known in
         let type : type_of m ≡ msg_type s = ap type_of (sym is) ∙ kept.type s in
@@ -123,4 +122,4 @@ write_what_was_read market s bytes m = go (read_of market s) (how_read market s)
     go _ (good_fields {l = l} there known q) e zero out room =
         let r = reached s l.size there in
         let is : message_of l.kind (fields_at s l) ≡ m = cc in
-        wrote_all market s bytes m out l known r.size (omega (arith, r.size, r.there)) room q is (subst (λ (x : Shape). ReservedZero x s) known zero)
+        wrote_all market s bytes m out l known r.size (omega (arith, r.size, r.there)) room q is (subst (λ (x : Option Layout). ReservedZero x s) known zero)

@@ -1,9 +1,10 @@
 -- A typed message always has a type of the table, so that the writer's answer 3 never arises.
+use Rattle.std.specs.Prelude.{Option, Some, None}
 use mathlib.Core.Path.{◌≡◌, sym, subst}
 use mathlib.Core.List.{List}
 use Prim.Native.Nat.{ℕ}
 use native.Mathlib.Omega.{arith}
-use Rattle.wire.specs.declared.table.Shape.{Shape}
+use Rattle.wire.specs.declared.table.Layout.{Layout}
 use Rattle.wire.specs.declared.Message.{Message}
 use Rattle.markets.specs.declared.Market.{Market}
 use Rattle.wire.specs.Outcome.{refused}
@@ -13,9 +14,9 @@ use Rattle.wire.specs.Writing.{Write, write_of}
 use Rattle.wire.proofs.Cases.{done_is_not_refused}
 use Rattle.wire.proofs.Ways.{HowWritten, unknown_type, bad_field, no_room, all_written, how_written}
 
-abbrev pub IsKnown : Shape → Type 0
-IsKnown Shape.Unknown = ⊥
-IsKnown (Shape.Known l) = Unit {0}
+abbrev pub IsKnown : Option Layout → Type 0
+IsKnown None = ⊥
+IsKnown (Some l) = Unit {0}
 
 pub type_known : (m : Message) → IsKnown (shape_of (type_of m))
 unfolding shape_of

@@ -1,5 +1,5 @@
 -- Numbers as bytes, least significant first, at every width; and what a store of some bytes leaves.
-use Rattle.std.specs.Prelude.{ℕ, zero, suc, ◌≤◌, ◌+◌, ◌*◌, ◌-◌, ◌/◌, ◌%◌, List, [], ◌∷◌, ◌++◌, length, take, drop, replicate}
+use Rattle.std.specs.Prelude.{ℕ, zero, suc, ◌≤◌, ◌+◌, ◌*◌, ◌-◌, ◌/◌, ◌%◌, List, [], ◌∷◌, ◌++◌, length, take, drop, replicate, ◌≡◌, ◌⊎◌}
 use Rattle.std.proofs.Math.Seq.{slice}
 
 -- the number that some bytes are
@@ -15,6 +15,10 @@ little_endian (suc w) v = (v % 256) ∷ little_endian w (v / 256)
 -- the number that stands from a up to e
 abbrev pub value_at : List ℕ → ℕ → ℕ → ℕ
 value_at s a e = value (slice a e s)
+
+-- a field of w bytes is there at its full width, or it is not there
+abbrev pub IsField : ℕ → ℕ → Type 0
+IsField w n = (n ≡ w) ⊎ (n ≡ 0)
 
 -- s with the bytes d in the place of those from a up to e
 abbrev pub splice : List ℕ → ℕ → ℕ → List ℕ → List ℕ

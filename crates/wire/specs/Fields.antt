@@ -1,12 +1,11 @@
 -- The fields of a message, by its layout, and the bad ones: document 01's, and conditions that its market does not list.
-use Rattle.std.specs.Prelude.{ℕ, ◌+◌, ◌-◌, ◌≤◌, ◌≡◌, List, [], ◌∷◌, Bool, true, false, cond, not, eqb, ltb, leb, take, get_or}
+use Rattle.std.specs.Prelude.{ℕ, ◌+◌, ◌-◌, ◌≤◌, ◌≡◌, List, [], ◌∷◌, Bool, true, false, cond, not, eqb, ltb, leb, take, get_or, Option, Some, None}
 use Rattle.std.proofs.Math.Seq.{slice}
 use Rattle.wire.specs.Outcome.{Answered, done, only, bad_at}
-use Rattle.wire.specs.Bytes.{value_at, plain_room}
+use Rattle.wire.specs.Bytes.{value_at, plain_room, IsField}
 use Rattle.markets.specs.Conditions.{listed}
 use Rattle.wire.specs.declared.table.Layout.{Layout}
 use Rattle.wire.specs.declared.fields.Fields.{Fields}
-use Rattle.wire.specs.declared.Fault.{Fault}
 use Rattle.markets.specs.declared.Market.{Market}
 
 -- how many conditions a type's array holds, one a byte
@@ -42,6 +41,20 @@ pub record Sane (l : Layout) : Type 0 where
   pub coded₀ : l.plain + conditions_in l.coded ≤ l.pad
   pub size₀ : l.pad ≤ l.size
   pub size₁ : l.size ≤ l.pad + 1
+
+-- Each number is there at its full width, or it is not there.
+pub record Whole (l : Layout) : Type 0 where
+  pub seconds : IsField 4 (l.form - 4)
+  pub order : IsField 8 (l.fresh - l.order)
+  pub fresh : IsField 8 (l.id - l.fresh)
+  pub id : IsField 4 (l.price - l.id)
+  pub price : IsField 4 (l.volume - l.price)
+  pub volume : IsField 4 (l.flag - l.volume)
+  pub flag : IsField 1 (l.side - l.flag)
+  pub side : IsField 1 (l.letter - l.side)
+  pub letter : IsField 1 (l.gap - l.letter)
+  pub gap : IsField 1 (l.plain - l.gap)
+  pub pad : IsField 1 (l.size - l.pad)
 
 -- what stands in them; one that the type lacks reads 0
 abbrev pub fields_at : List ℕ → Layout → Fields
@@ -126,17 +139,17 @@ checks_of market l f array =
     ∷ conditions_at l.coded l.plain market array
 
 -- the first bad one
-unfoldable pub first_bad : List Check → Fault
-first_bad [] = Fault.Nothing
-first_bad (c ∷ cs) = cond c.bad (Fault.At c.at) (first_bad cs)
+unfoldable pub first_bad : List Check → Option ℕ
+first_bad [] = None
+first_bad (c ∷ cs) = cond c.bad (Some c.at) (first_bad cs)
 
-unfoldable pub fault_of : Market → Layout → Fields → List ℕ → Fault
+unfoldable pub fault_of : Market → Layout → Fields → List ℕ → Option ℕ
 fault_of market l f array = first_bad (checks_of market l f array)
 
 -- document 01's number of each case, with the offset
-abbrev pub fault_as : Fault → Answered (Unit {0})
-fault_as Fault.Nothing = only (done tt)
-fault_as (Fault.At n) = bad_at n
+abbrev pub fault_as : Option ℕ → Answered (Unit {0})
+fault_as None = only (done tt)
+fault_as (Some n) = bad_at n
 
 -- ---- the numbers of a message as the writer lays them out
 
@@ -146,10 +159,6 @@ ends_of l =
     2 ∷ 4 ∷ l.form ∷ (l.form + 4) ∷ (l.form + 8) ∷ l.order ∷ l.fresh ∷ l.id ∷ l.price ∷ l.volume ∷ l.flag ∷ l.side ∷ l.letter ∷ l.gap ∷ l.plain ∷ []
 
 -- Msg Size, Msg Type, the fields, and zero in the gap
-abbrev pub values_with : ℕ → ℕ → ℕ → ℕ → ℕ → ℕ → ℕ → ℕ → ℕ → ℕ → ℕ → ℕ → ℕ → ℕ → List ℕ
-values_with size type seconds nanos index number order fresh id price volume flag side letter =
-    size ∷ type ∷ seconds ∷ nanos ∷ index ∷ number ∷ order ∷ fresh ∷ id ∷ price ∷ volume ∷ flag ∷ side ∷ letter ∷ 0 ∷ []
-
 abbrev pub values_of : ℕ → ℕ → Fields → List ℕ
 values_of size type f =
-    values_with size type f.seconds f.nanos f.index f.number f.order f.fresh f.id f.price f.volume f.flag f.side f.letter
+    size ∷ type ∷ f.seconds ∷ f.nanos ∷ f.index ∷ f.number ∷ f.order ∷ f.fresh ∷ f.id ∷ f.price ∷ f.volume ∷ f.flag ∷ f.side ∷ f.letter ∷ 0 ∷ []

@@ -1,12 +1,11 @@
 -- Typed messages: which fields each type has, and its number.
-use Rattle.std.specs.Prelude.{ℕ, List}
+use Rattle.std.specs.Prelude.{ℕ, List, Option, Some, None}
 use Rattle.wire.specs.Outcome.{Answered}
 use Rattle.wire.specs.Table.{shape_of}
 use Rattle.wire.specs.Fields.{array_of, fault_of, fault_as}
-use Rattle.wire.specs.declared.table.Shape.{Shape}
 use Rattle.wire.specs.declared.table.Kind.{Kind}
+use Rattle.wire.specs.declared.table.Layout.{Layout}
 use Rattle.wire.specs.declared.fields.Fields.{Fields}
-use Rattle.wire.specs.declared.Fault.{Fault}
 use Rattle.markets.specs.declared.Market.{Market}
 use Rattle.wire.specs.declared.Head.{Head}
 use Rattle.wire.specs.declared.Message.{Message}
@@ -47,6 +46,10 @@ fields_with h seconds order fresh id price volume flag side letter = record {
   letter = letter;
 }
 
+-- those that every message has, and 0 for the others
+abbrev pub fields_of_head : Head → Fields
+fields_of_head h = fields_with h 0 0 0 0 0 0 0 0 0
+
 -- the fields of a message; those that its type lacks are 0
 abbrev pub fields_of : Message → Fields
 fields_of (Add h order price volume side) = fields_with h 0 order 0 0 price volume 0 side 0
@@ -84,11 +87,11 @@ abbrev pub index_in : Message → ℕ
 index_in m = (fields_of m).index
 
 -- its first bad field, with its array beside it
-abbrev pub fault_under : Shape → Market → Message → List ℕ → Fault
-fault_under Shape.Unknown market m plain = Fault.Nothing
-fault_under (Shape.Known l) market m plain = fault_of market l (fields_of m) (array_of l plain)
+abbrev pub fault_under : Option Layout → Market → Message → List ℕ → Option ℕ
+fault_under None market m plain = None
+fault_under (Some l) market m plain = fault_of market l (fields_of m) (array_of l plain)
 
-unfoldable pub fault_in : Market → Message → List ℕ → Fault
+unfoldable pub fault_in : Market → Message → List ℕ → Option ℕ
 fault_in market m plain = fault_under (shape_of (type_of m)) market m plain
 
 -- 0, or 4 with the offset of that field

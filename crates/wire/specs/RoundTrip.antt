@@ -1,12 +1,12 @@
 -- Demand 2's round trips: messages go to bytes and back, under every market, one and the same on both ways.
-use Rattle.std.specs.Prelude.{ℕ, ◌-◌, ◌^◌, ◌≤◌, ◌<◌, List, ◌++◌, ◌≡◌, length, take, drop, get_or}
+use Rattle.std.specs.Prelude.{ℕ, ◌-◌, ◌^◌, ◌≤◌, ◌<◌, List, ◌++◌, ◌≡◌, length, take, drop, get_or, Option, Some, None}
 use Rattle.wire.specs.Outcome.{done, only}
 use Rattle.wire.specs.Bytes.{value_at, padded_plain}
 use Rattle.wire.specs.Table.{shape_of}
 use Rattle.wire.specs.Message.{type_of}
 use Rattle.wire.specs.Reading.{msg_size, msg_type, Read, read_as, read_of}
 use Rattle.wire.specs.Writing.{Write, leaving, write_of}
-use Rattle.wire.specs.declared.table.Shape.{Shape}
+use Rattle.wire.specs.declared.table.Layout.{Layout}
 use Rattle.wire.specs.declared.fields.Fields.{Fields}
 use Rattle.wire.specs.declared.Message.{Message}
 use Rattle.markets.specs.declared.Market.{Market}
@@ -30,9 +30,9 @@ abbrev pub Bytes : List ℕ → Type 0
 Bytes s = (i : ℕ) → get_or s i 0 < 256
 
 -- how many bytes of its array belong to a message of this shape
-abbrev pub array_width : Shape → ℕ
-array_width Shape.Unknown = 0
-array_width (Shape.Known l) = l.pad - l.plain
+abbrev pub array_width : Option Layout → ℕ
+array_width None = 0
+array_width (Some l) = l.pad - l.plain
 
 -- the same message: the bytes of its array beyond its type's width are no part of it
 abbrev pub same_message : Message → List ℕ → Read
@@ -43,9 +43,9 @@ unfoldable pub ReadsBack : Market → Message → List ℕ → Write → Type 0
 ReadsBack market m plain w = (n : ℕ) → w.outcome ≡ done n → read_of market w.out ≡ same_message m plain
 
 -- the reserved bytes of a message of this shape are zero
-abbrev pub ReservedZero : Shape → List ℕ → Type 0
-ReservedZero Shape.Unknown s = Unit {0}
-ReservedZero (Shape.Known l) s = (value_at s l.gap l.plain ≡ 0) × (value_at s l.pad l.size ≡ 0)
+abbrev pub ReservedZero : Option Layout → List ℕ → Type 0
+ReservedZero None s = Unit {0}
+ReservedZero (Some l) s = (value_at s l.gap l.plain ≡ 0) × (value_at s l.pad l.size ≡ 0)
 
 -- Writing what was read gives the same bytes, where the reserved bytes are zero.
 unfoldable pub WritesBack : Market → List ℕ → Read → Type 0

@@ -1,10 +1,8 @@
 -- Document 01, "Message layouts": the table, nearly as it is printed, and the layout that it gives for a type number.
-use Rattle.std.specs.Prelude.{ℕ, ◌+◌, List, [], ◌∷◌, Bool, true, false, cond, ◌&&◌, eqb, leb, T}
+use Rattle.std.specs.Prelude.{ℕ, ◌+◌, List, [], ◌∷◌, Bool, true, false, cond, ◌&&◌, eqb, leb, T, Option, Some, None}
 use Rattle.wire.specs.declared.table.Kind.{Kind}
 use Rattle.wire.specs.declared.table.Kind.TheVariants.{Add, Modify, Delete, Execute, Replace, Imbalance, NonDisplayed, Cross, TradeCancel, CrossCorrection, Retail, Clear, Status}
 use Rattle.wire.specs.declared.table.Layout.{Layout}
-use Rattle.wire.specs.declared.table.Shape.{Shape}
-use Rattle.wire.specs.declared.table.Shape.TheVariants.{Known, Unknown}
 
 -- The further fields. Every type has those that it has in this order.
 pub data FieldName : Type 0 where
@@ -164,10 +162,10 @@ layout_of r =
       pad = start_after a (order ∷ fresh ∷ id ∷ price ∷ volume ∷ flag ∷ side ∷ letter ∷ gap ∷ plain ∷ []) r.entries;
     }
 
-abbrev pub find : ℕ → List Row → Shape
-find n [] = Unknown
-find n (r ∷ rs) = cond (eqb n r.number) (Known (layout_of r)) (find n rs)
+abbrev pub find : ℕ → List Row → Option Layout
+find n [] = None
+find n (r ∷ rs) = cond (eqb n r.number) (Some (layout_of r)) (find n rs)
 
 -- the layout of a type number, or unknown
-unfoldable pub shape_of : ℕ → Shape
+unfoldable pub shape_of : ℕ → Option Layout
 shape_of n = find n table

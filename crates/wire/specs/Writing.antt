@@ -1,24 +1,22 @@
 -- Writing a message: document 01, "A written message checks 3, 4, then 15".
-use Rattle.std.specs.Prelude.{ℕ, ◌-◌, ◌≤◌, List, ◌++◌, Bool, true, false, ◌≡◌, length, drop, ltb}
+use Rattle.std.specs.Prelude.{ℕ, ◌-◌, ◌≤◌, List, ◌++◌, Bool, true, false, ◌≡◌, length, drop, ltb, Option, Some, None, Result, Ok, Err}
 use Rattle.wire.specs.Outcome.{Outcome, done, refused, Answered, only, bad_at}
 use Rattle.wire.specs.Bytes.{little_endian, bytes_of}
 use Rattle.wire.specs.Table.{shape_of}
 use Rattle.wire.specs.Fields.{array_of, fault_of, ends_of, values_of}
 use Rattle.wire.specs.Message.{fields_of, type_of}
 use Rattle.wire.specs.declared.table.Layout.{Layout}
-use Rattle.wire.specs.declared.table.Shape.{Shape}
 use Rattle.wire.specs.declared.fields.Fields.{Fields}
-use Rattle.wire.specs.declared.Fault.{Fault}
 use Rattle.markets.specs.declared.Market.{Market}
 use Rattle.wire.specs.declared.Message.{Message}
-use Rattle.wire.specs.declared.Written.{Written}
+use Rattle.wire.specs.declared.WriteError.{WriteError}
 
 -- document 01's number and value of each case, and the offset
-abbrev pub wrote_as : Written → Answered ℕ
-wrote_as (Written.Bytes n) = only (done n)
-wrote_as Written.BadType = only (refused 3)
-wrote_as (Written.BadField n) = bad_at n
-wrote_as Written.NoRoom = only (refused 15)
+abbrev pub wrote_as : Result ℕ WriteError → Answered ℕ
+wrote_as (Ok n) = only (done n)
+wrote_as (Err WriteError.BadType) = only (refused 3)
+wrote_as (Err (WriteError.BadField n)) = bad_at n
+wrote_as (Err WriteError.NoRoom) = only (refused 15)
 
 -- how many bytes were written
 abbrev pub count_of : Outcome ℕ → ℕ
@@ -34,7 +32,7 @@ pub record Write : Type 0 where
 abbrev pub leaving : Answered ℕ → List ℕ → Write
 leaving a out = record { outcome = a.outcome; offset = a.offset; out = out }
 
-abbrev pub wrote : Written → List ℕ → Write
+abbrev pub wrote : Result ℕ WriteError → List ℕ → Write
 wrote w out = leaving (wrote_as w) out
 
 -- a refused write leaves the buffer as it was; with a bad field it says where that stands
@@ -59,13 +57,13 @@ unfoldable pub write_sized : Bool → ℕ → List ℕ → List ℕ → Write
 write_sized true size image out = refuse 15 out
 write_sized false size image out = leaving (only (done size)) (image ++ drop size out)
 
-unfoldable pub write_by : Fault → Layout → Message → List ℕ → List ℕ → Write
-write_by (Fault.At n) l m plain out = refuse_field n out
-write_by Fault.Nothing l m plain out = write_sized (ltb (length out) l.size) l.size (image_of l (type_of m) (fields_of m) plain) out
+unfoldable pub write_by : Option ℕ → Layout → Message → List ℕ → List ℕ → Write
+write_by (Some n) l m plain out = refuse_field n out
+write_by None l m plain out = write_sized (ltb (length out) l.size) l.size (image_of l (type_of m) (fields_of m) plain) out
 
-unfoldable pub write_shape : Shape → Market → Message → List ℕ → List ℕ → Write
-write_shape Shape.Unknown market m plain out = refuse 3 out
-write_shape (Shape.Known l) market m plain out = write_by (fault_of market l (fields_of m) (array_of l plain)) l m plain out
+unfoldable pub write_shape : Option Layout → Market → Message → List ℕ → List ℕ → Write
+write_shape None market m plain out = refuse 3 out
+write_shape (Some l) market m plain out = write_by (fault_of market l (fields_of m) (array_of l plain)) l m plain out
 
 -- the message at the start of out, as a market sends it
 unfoldable pub write_of : Market → Message → List ℕ → List ℕ → Write

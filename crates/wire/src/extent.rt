@@ -2,36 +2,34 @@
 ghost use Rattle.std.specs.Prelude.{◌≡◌, drop};
 ghost use Rattle.wire.specs.Reading.{reached_as, reach_of};
 
-use crate::Reach;
-use crate::bytes::get16;
+use crate::ReachError;
+use crate::bytes::get;
 
 // Msg Size and Msg Type: no message has fewer bytes.
 const LEAST: usize = 4;
 
 // How far the message at a position of the stream reaches.
-pub fn reach_at(s: &[u8], at: usize) -> Reach
+pub fn reach_at(s: &[u8], at: usize) -> Result<usize, ReachError>
     ensures { reached_as result ≡ reach_of (drop at s.now) }
 {
-    if s.len() < at {
-        return Reach::Short;
-    }
-    first_reach(&s[at..])
+    let rest = s.get(at..).ok_or(ReachError::Short)?;
+    first_reach(rest)
 }
 
 // How far the message at the start of s reaches.
-pub(crate) fn first_reach(s: &[u8]) -> Reach
+#[tactic(auto, unfolding(crate::specs::Reading::reach_of, crate::specs::Reading::reach_by))]
+pub(crate) fn first_reach(s: &[u8]) -> Result<usize, ReachError>
     ensures { reached_as result ≡ reach_of s.now }
 {
     if s.len() < LEAST {
-        return Reach::Short;
+        return Err(ReachError::Short);
     }
-    let size = get16(s, 0, 2) as usize;
+    let size = usize::from(get::<u16>(s, 0, 2));
     if size < LEAST {
-        return Reach::Small;
+        return Err(ReachError::Small);
     }
     if s.len() < size {
-        Reach::Short
-    } else {
-        Reach::Size(size)
+        return Err(ReachError::Short);
     }
+    Ok(size)
 }

@@ -11,10 +11,12 @@ mod table;
 mod typed;
 mod writing;
 
-ghost use Rattle.std.specs.Prelude.{◌≡◌};
-ghost use Rattle.wire.specs.Outcome.{number_of};
-ghost use Rattle.wire.specs.Reading.{answered_as};
-ghost use Rattle.wire.specs.Writing.{wrote_as, count_of};
+ghost use Rattle.std.specs.Prelude.{◌≡◌, ◌≢◌, ℕ, Err};
+ghost use Rattle.std.specs.Result.{result_unwrap_or};
+ghost use Rattle.std.proofs.Common.{rules};
+ghost use Rattle.wire.specs.Outcome.{number_of, told_by};
+ghost use Rattle.wire.specs.Reading.{answered_as, unreached_as};
+ghost use Rattle.wire.specs.Writing.{wrote_as};
 
 pub use extent::reach_at;
 pub use reading::decode;
@@ -116,105 +118,141 @@ pub enum Message {
     },
 }
 
-// What stands at a position: a message of so many bytes, too few bytes, or a Msg Size below 4.
-#[derive(Clone, Copy)]
-pub enum Reach {
-    Size(usize),
+// Why no message is reached: too few bytes, or a Msg Size below 4.
+#[derive(Clone, Copy, PartialEq, Eq)]
+pub enum ReachError {
     Short,
     Small,
 }
 
-// The first bad field of a message: none, or the one that starts at this offset in the message, where Msg Size stands at 0.
-#[derive(Clone, Copy)]
-pub enum Fault {
-    Nothing,
-    At(usize),
-}
-
-// What reading answers. A bad field comes with the offset of the first one.
-#[derive(Clone, Copy)]
-pub enum Answer {
-    Message(Message),
+// Why nothing is read. A bad field comes with the offset of the first one.
+#[derive(Clone, Copy, PartialEq, Eq)]
+pub enum ReadError {
     Short,
     BadSize,
     BadType,
     BadField(usize),
 }
 
-// The answer with the message's byte array beside it, zeros after its end. A refused read has zeros alone.
+// A message that was read, with its byte array beside it, zeros after its end.
 #[derive(Clone, Copy)]
 pub struct Decoded {
-    pub answer: Answer,
+    pub message: Message,
     pub plain: [u8; PLAIN],
 }
 
-// What writing answers: how many bytes, or why none. A bad field comes with the offset of the first one.
-#[derive(Clone, Copy)]
-pub enum Written {
-    Bytes(usize),
+// Why nothing is written. A bad field comes with the offset of the first one.
+#[derive(Clone, Copy, PartialEq, Eq)]
+pub enum WriteError {
     BadType,
     BadField(usize),
     NoRoom,
 }
 
-// Document 01's number of what reading answered.
-pub fn number_of_answer(a: Answer) -> u8
-    ensures { result ≡ number_of (answered_as a).outcome }
+impl From<ReachError> for ReadError {
+    ghost from_gives = { λ reach read. read ≡ unreached_as reach };
+
+    fn from(e: ReachError) -> ReadError {
+        match e {
+            ReachError::Short => ReadError::Short,
+            ReachError::Small => ReadError::BadSize,
+        }
+    }
+}
+
+// A refusal in document 01's numbers.
+pub trait Refusal: Copy {
+    ghost number: { Self → ℕ };
+
+    ghost offset: { Self → ℕ };
+
+    // Document 01's number.
+    fn number(self) -> u8
+        ensures { result ≡ number self };
+
+    // The offset of the first bad field, with a 4; with every other number 0.
+    fn offset(self) -> usize
+        ensures { result ≡ offset self };
+
+    ghost refuses: { (e : Self) → number e ≢ 0 };
+
+    ghost no_field: { (e : Self) → number e ≢ 4 → offset e ≡ 0 };
+}
+
+impl Refusal for ReadError {
+    ghost number = { λ e. number_of (answered_as (Err e)).outcome };
+
+    ghost offset = { λ e. (answered_as (Err e)).offset };
+
+    ghost refuses = { Prim.search rules };
+
+    ghost no_field = { Prim.search rules };
+
+    fn number(self) -> u8 {
+        match self {
+            ReadError::Short => 1,
+            ReadError::BadSize => 2,
+            ReadError::BadType => 3,
+            ReadError::BadField(_) => 4,
+        }
+    }
+
+    fn offset(self) -> usize {
+        match self {
+            ReadError::BadField(n) => n,
+            _ => 0,
+        }
+    }
+}
+
+impl Refusal for WriteError {
+    ghost number = { λ e. number_of (wrote_as (Err e)).outcome };
+
+    ghost offset = { λ e. (wrote_as (Err e)).offset };
+
+    ghost refuses = { Prim.search rules };
+
+    ghost no_field = { Prim.search rules };
+
+    fn number(self) -> u8 {
+        match self {
+            WriteError::BadType => 3,
+            WriteError::BadField(_) => 4,
+            WriteError::NoRoom => 15,
+        }
+    }
+
+    fn offset(self) -> usize {
+        match self {
+            WriteError::BadField(n) => n,
+            _ => 0,
+        }
+    }
+}
+
+// Document 01's number of what a call answered, in which 0 is done.
+pub fn number_of<T: Copy, E: Refusal>(r: Result<T, E>) -> u8
+    ensures { result ≡ told_by E.number r }
 {
-    match a {
-        Answer::Message(_) => 0,
-        Answer::Short => 1,
-        Answer::BadSize => 2,
-        Answer::BadType => 3,
-        Answer::BadField(_) => 4,
+    match r {
+        Ok(_) => 0,
+        Err(e) => e.number(),
     }
 }
 
 // The offset of the first bad field, with a 4; with every other number 0.
-pub fn offset_of_answer(a: Answer) -> usize
-    ensures { result ≡ (answered_as a).offset }
+pub fn offset_of<T: Copy, E: Refusal>(r: Result<T, E>) -> usize
+    ensures { result ≡ told_by E.offset r }
 {
-    match a {
-        Answer::Message(_) => 0,
-        Answer::Short => 0,
-        Answer::BadSize => 0,
-        Answer::BadType => 0,
-        Answer::BadField(n) => n,
-    }
-}
-
-// Document 01's number of what writing answered.
-pub fn number_of_written(w: Written) -> u8
-    ensures { result ≡ number_of (wrote_as w).outcome }
-{
-    match w {
-        Written::Bytes(_) => 0,
-        Written::BadType => 3,
-        Written::BadField(_) => 4,
-        Written::NoRoom => 15,
+    match r {
+        Ok(_) => 0,
+        Err(e) => e.offset(),
     }
 }
 
 // How many bytes were written: none when refused.
-pub fn count_of_written(w: Written) -> usize
-    ensures { result ≡ count_of (wrote_as w).outcome }
+pub fn count_of<E: Copy>(r: Result<usize, E>) -> usize
+    ensures { result ≡ result_unwrap_or r 0 }
 {
-    match w {
-        Written::Bytes(n) => n,
-        Written::BadType => 0,
-        Written::BadField(_) => 0,
-        Written::NoRoom => 0,
-    }
-}
-
-// The offset of the first bad field, with a 4; with every other number 0.
-pub fn offset_of_written(w: Written) -> usize
-    ensures { result ≡ (wrote_as w).offset }
-{
-    match w {
-        Written::Bytes(_) => 0,
-        Written::BadType => 0,
-        Written::BadField(n) => n,
-        Written::NoRoom => 0,
-    }
+    r.unwrap_or(0)
 }

@@ -48,17 +48,13 @@ pub(crate) struct Layout {
     pub(crate) pad: usize,
 }
 
-#[derive(Clone, Copy)]
-pub(crate) enum Shape {
-    Known(Layout),
-    Unknown,
-}
-
-pub(crate) fn shape_of(number: u16) -> Shape
+// The layout of a type number.
+#[tactic(auto, unfolding(crate::specs::Table::shape_of))]
+pub(crate) fn shape_of(number: u16) -> Option<Layout>
     ensures { result ≡ shape_of number }
 {
     match number {
-        100 => Shape::Known(Layout {
+        100 => Some(Layout {
             kind: Kind::Add,
             positive: true,
             coded: false,
@@ -76,7 +72,7 @@ pub(crate) fn shape_of(number: u16) -> Shape
             plain: 33,
             pad: 38,
         }),
-        101 => Shape::Known(Layout {
+        101 => Some(Layout {
             kind: Kind::Modify,
             positive: true,
             coded: false,
@@ -94,7 +90,7 @@ pub(crate) fn shape_of(number: u16) -> Shape
             plain: 34,
             pad: 34,
         }),
-        102 => Shape::Known(Layout {
+        102 => Some(Layout {
             kind: Kind::Delete,
             positive: false,
             coded: false,
@@ -112,7 +108,7 @@ pub(crate) fn shape_of(number: u16) -> Shape
             plain: 24,
             pad: 24,
         }),
-        103 => Shape::Known(Layout {
+        103 => Some(Layout {
             kind: Kind::Execute,
             positive: true,
             coded: true,
@@ -130,7 +126,7 @@ pub(crate) fn shape_of(number: u16) -> Shape
             plain: 38,
             pad: 42,
         }),
-        104 => Shape::Known(Layout {
+        104 => Some(Layout {
             kind: Kind::Replace,
             positive: true,
             coded: false,
@@ -148,7 +144,7 @@ pub(crate) fn shape_of(number: u16) -> Shape
             plain: 41,
             pad: 41,
         }),
-        105 => Shape::Known(Layout {
+        105 => Some(Layout {
             kind: Kind::Imbalance,
             positive: false,
             coded: false,
@@ -166,7 +162,7 @@ pub(crate) fn shape_of(number: u16) -> Shape
             plain: 20,
             pad: 73,
         }),
-        110 => Shape::Known(Layout {
+        110 => Some(Layout {
             kind: Kind::NonDisplayed,
             positive: true,
             coded: true,
@@ -184,7 +180,7 @@ pub(crate) fn shape_of(number: u16) -> Shape
             plain: 29,
             pad: 33,
         }),
-        111 => Shape::Known(Layout {
+        111 => Some(Layout {
             kind: Kind::Cross,
             positive: false,
             coded: false,
@@ -202,7 +198,7 @@ pub(crate) fn shape_of(number: u16) -> Shape
             plain: 29,
             pad: 29,
         }),
-        112 => Shape::Known(Layout {
+        112 => Some(Layout {
             kind: Kind::TradeCancel,
             positive: false,
             coded: false,
@@ -220,7 +216,7 @@ pub(crate) fn shape_of(number: u16) -> Shape
             plain: 20,
             pad: 20,
         }),
-        113 => Shape::Known(Layout {
+        113 => Some(Layout {
             kind: Kind::CrossCorrection,
             positive: false,
             coded: false,
@@ -238,7 +234,7 @@ pub(crate) fn shape_of(number: u16) -> Shape
             plain: 24,
             pad: 24,
         }),
-        114 => Shape::Known(Layout {
+        114 => Some(Layout {
             kind: Kind::Retail,
             positive: false,
             coded: false,
@@ -256,7 +252,7 @@ pub(crate) fn shape_of(number: u16) -> Shape
             plain: 17,
             pad: 17,
         }),
-        32 => Shape::Known(Layout {
+        32 => Some(Layout {
             kind: Kind::Clear,
             positive: false,
             coded: false,
@@ -274,7 +270,7 @@ pub(crate) fn shape_of(number: u16) -> Shape
             plain: 20,
             pad: 20,
         }),
-        34 => Shape::Known(Layout {
+        34 => Some(Layout {
             kind: Kind::Status,
             positive: false,
             coded: false,
@@ -292,6 +288,6 @@ pub(crate) fn shape_of(number: u16) -> Shape
             plain: 20,
             pad: 46,
         }),
-        _ => Shape::Unknown,
+        _ => None,
     }
 }

@@ -2,14 +2,14 @@
 ghost use Rattle.std.specs.Prelude.{◌≡◌};
 ghost use Rattle.wire.specs.RoundTrip.{InRange};
 ghost use Rattle.wire.specs.Fields.{fault_as};
-ghost use Rattle.wire.specs.Message.{message_of, fields_with, fields_of, type_of, index_in, bad_field_of};
+ghost use Rattle.wire.specs.Message.{message_of, fields_of_head, fields_of, type_of, index_in, bad_field_of};
 
 use crate::fields::{Fields, fault_of};
-use crate::table::{Kind, Shape, shape_of};
-use crate::{Fault, Head, Message, PLAIN};
+use crate::table::{Kind, shape_of};
+use crate::{Head, Message, PLAIN};
 use markets::Market;
 
-// The message of a type with these fields.
+// The message of a type with these fields. It is made of two values, and a `From` of a pair would name neither.
 pub(crate) fn message_of(k: Kind, f: Fields) -> Message
     ensures { result ≡ message_of k f }
 {
@@ -93,97 +93,143 @@ pub(crate) fn message_of(k: Kind, f: Fields) -> Message
     }
 }
 
-// The fields of a message; those that its type lacks are 0.
-pub(crate) fn fields_of(m: Message) -> Fields
-    ensures { (result ≡ fields_of m) × InRange (fields_of m) }
-{
-    match m {
-        Message::Add {
-            head,
-            order,
-            price,
-            volume,
-            side,
-        } => fields_with(head, 0, order, 0, 0, price, volume, 0, side, 0),
-        Message::Modify {
-            head,
-            order,
-            price,
-            volume,
-            position,
-            side,
-        } => fields_with(head, 0, order, 0, 0, price, volume, position, side, 0),
-        Message::Delete { head, order } => fields_with(head, 0, order, 0, 0, 0, 0, 0, 0, 0),
-        Message::Execute {
-            head,
-            order,
-            trade,
-            price,
-            volume,
-            printable,
-        } => fields_with(head, 0, order, 0, trade, price, volume, printable, 0, 0),
-        Message::Replace {
-            head,
-            order,
-            new_order,
-            price,
-            volume,
-            side,
-        } => fields_with(head, 0, order, new_order, 0, price, volume, 0, side, 0),
-        Message::Imbalance { head, seconds } => fields_with(head, seconds, 0, 0, 0, 0, 0, 0, 0, 0),
-        Message::NonDisplayed {
-            head,
-            trade,
-            price,
-            volume,
-            printable,
-        } => fields_with(head, 0, 0, 0, trade, price, volume, printable, 0, 0),
-        Message::Cross {
-            head,
-            cross,
-            price,
-            volume,
-            class,
-        } => fields_with(head, 0, 0, 0, cross, price, volume, 0, 0, class),
-        Message::TradeCancel { head, trade } => fields_with(head, 0, 0, 0, trade, 0, 0, 0, 0, 0),
-        Message::CrossCorrection {
-            head,
-            cross,
-            volume,
-        } => fields_with(head, 0, 0, 0, cross, 0, volume, 0, 0, 0),
-        Message::Retail { head, indicator } => fields_with(head, 0, 0, 0, 0, 0, 0, 0, 0, indicator),
-        Message::Clear { head, seconds } => fields_with(head, seconds, 0, 0, 0, 0, 0, 0, 0, 0),
-        Message::Status { head, seconds } => fields_with(head, seconds, 0, 0, 0, 0, 0, 0, 0, 0),
-    }
-}
-
-fn fields_with(
-    head: Head,
-    seconds: u32,
-    order: u64,
-    fresh: u64,
-    id: u32,
-    price: u32,
-    volume: u32,
-    flag: u8,
-    side: u8,
-    letter: u8,
-) -> Fields
-    ensures { (result ≡ fields_with head seconds order fresh id price volume flag side letter) × InRange (fields_with head seconds order fresh id price volume flag side letter) }
+// The fields that every message has, and 0 for those that its type lacks.
+fn fields_of_head(head: Head) -> Fields
+    ensures { result ≡ fields_of_head head }
 {
     Fields {
-        seconds,
+        seconds: 0,
         nanos: head.nanos,
         index: head.index,
         number: head.number,
-        order,
-        fresh,
-        id,
-        price,
-        volume,
-        flag,
-        side,
-        letter,
+        order: 0,
+        fresh: 0,
+        id: 0,
+        price: 0,
+        volume: 0,
+        flag: 0,
+        side: 0,
+        letter: 0,
+    }
+}
+
+impl From<Message> for Fields {
+    ghost from_gives = { λ message fields. (fields ≡ fields_of message) × InRange (fields_of message) };
+
+    fn from(m: Message) -> Fields {
+        match m {
+            Message::Add {
+                head,
+                order,
+                price,
+                volume,
+                side,
+            } => Fields {
+                order,
+                price,
+                volume,
+                side,
+                ..fields_of_head(head)
+            },
+            Message::Modify {
+                head,
+                order,
+                price,
+                volume,
+                position,
+                side,
+            } => Fields {
+                order,
+                price,
+                volume,
+                flag: position,
+                side,
+                ..fields_of_head(head)
+            },
+            Message::Delete { head, order } => Fields {
+                order,
+                ..fields_of_head(head)
+            },
+            Message::Execute {
+                head,
+                order,
+                trade,
+                price,
+                volume,
+                printable,
+            } => Fields {
+                order,
+                id: trade,
+                price,
+                volume,
+                flag: printable,
+                ..fields_of_head(head)
+            },
+            Message::Replace {
+                head,
+                order,
+                new_order,
+                price,
+                volume,
+                side,
+            } => Fields {
+                order,
+                fresh: new_order,
+                price,
+                volume,
+                side,
+                ..fields_of_head(head)
+            },
+            Message::NonDisplayed {
+                head,
+                trade,
+                price,
+                volume,
+                printable,
+            } => Fields {
+                id: trade,
+                price,
+                volume,
+                flag: printable,
+                ..fields_of_head(head)
+            },
+            Message::Cross {
+                head,
+                cross,
+                price,
+                volume,
+                class,
+            } => Fields {
+                id: cross,
+                price,
+                volume,
+                letter: class,
+                ..fields_of_head(head)
+            },
+            Message::TradeCancel { head, trade } => Fields {
+                id: trade,
+                ..fields_of_head(head)
+            },
+            Message::CrossCorrection {
+                head,
+                cross,
+                volume,
+            } => Fields {
+                id: cross,
+                volume,
+                ..fields_of_head(head)
+            },
+            Message::Retail { head, indicator } => Fields {
+                letter: indicator,
+                ..fields_of_head(head)
+            },
+            Message::Imbalance { head, seconds }
+            | Message::Clear { head, seconds }
+            | Message::Status { head, seconds } => Fields {
+                seconds,
+                ..fields_of_head(head)
+            },
+        }
     }
 }
 
@@ -212,19 +258,13 @@ pub fn type_of(m: Message) -> u16
 pub fn index_of(m: Message) -> u32
     ensures { result ≡ index_in m }
 {
-    let f = fields_of(m);
-    f.index
+    Fields::from(m).index
 }
 
-// The first bad field of a message with its byte array. One that was read under the market has none; one that was made by hand may.
-pub fn bad_field(market: Market, m: Message, plain: [u8; PLAIN]) -> Fault
+// The offset of the first bad field of a message with its byte array, where Msg Size stands at 0. A message that was read under the market has none; one that was made by hand may.
+pub fn bad_field(market: Market, m: Message, plain: [u8; PLAIN]) -> Option<usize>
     ensures { fault_as result ≡ bad_field_of market m plain }
 {
-    let number = type_of(m);
-    let f = fields_of(m);
-    let shape = shape_of(number);
-    let Shape::Known(l) = shape else {
-        return Fault::Nothing;
-    };
-    fault_of(market, l, f, plain)
+    let l = shape_of(type_of(m))?;
+    fault_of(market, l, Fields::from(m), plain)
 }

@@ -1,58 +1,59 @@
 // Writing a message into a lent buffer.
-ghost use Rattle.std.specs.Prelude.{◌≡◌, ◌++◌, ◌≤◌, ltb, length, drop};
-ghost use Rattle.wire.specs.Fields.{Sane};
-ghost use Rattle.wire.specs.Writing.{image_of, wrote, write_sized, write_of};
+ghost use Rattle.std.specs.Prelude.{◌≡◌, ◌++◌, ◌≤◌, length, drop};
+ghost use Rattle.wire.specs.Fields.{Sane, Whole};
+ghost use Rattle.wire.specs.Writing.{image_of, wrote, write_of};
 ghost use Rattle.wire.specs.RoundTrip.{ReadsBack};
 
-use crate::bytes::{put_plain, put_value, put_values};
-use crate::fields::{Fields, ends_of, fault_of, values_of};
-use crate::table::{Layout, Shape, shape_of};
-use crate::typed::{fields_of, type_of};
-use crate::{Fault, Message, PLAIN, Written};
+use crate::bytes::{put, put_plain};
+use crate::fields::{Fields, fault_of};
+use crate::table::{Layout, shape_of};
+use crate::typed::type_of;
+use crate::{Message, PLAIN, WriteError};
 use markets::Market;
 
 // Writes a message with its byte array to the start of out, as the market sends it. Refused, it leaves every byte of out.
-pub fn encode(market: Market, m: Message, plain: [u8; PLAIN], out: &mut [u8]) -> Written
+pub fn encode(
+    market: Market,
+    m: Message,
+    plain: [u8; PLAIN],
+    out: &mut [u8],
+) -> Result<usize, WriteError>
     ensures writes { wrote result out.new ≡ write_of market m plain out.old }
     ensures reads_back { ReadsBack market m plain (wrote result out.new) }
 {
     let number = type_of(m);
-    let f = fields_of(m);
-    let shape = shape_of(number);
-    let Shape::Known(l) = shape else {
-        return Written::BadType;
-    };
-    let fault = fault_of(market, l, f, plain);
-    match fault {
-        Fault::At(n) => Written::BadField(n),
-        Fault::Nothing => encode_good(out, l, number, f, plain),
+    let f = Fields::from(m);
+    let l = shape_of(number).ok_or(WriteError::BadType)?;
+    if let Some(n) = fault_of(market, l, f, plain) {
+        return Err(WriteError::BadField(n));
     }
-}
-
-// The message of these fields, where there is room for it.
-fn encode_good(out: &mut [u8], l: Layout, number: u16, f: Fields, plain: [u8; PLAIN]) -> Written
-    requires { Sane l }
-    ensures { wrote result out.new ≡ write_sized (ltb (length out.old) l.size) l.size (image_of l number f plain) out.old }
-{
-    let size = l.size;
-    if out.len() < size {
-        return Written::NoRoom;
+    if out.len() < l.size {
+        return Err(WriteError::NoRoom);
     }
     put_message(out, l, number, f, plain);
-    Written::Bytes(size)
+    Ok(l.size)
 }
 
-// Writes the message over the first bytes of out.
+// Writes the message over the first bytes of out: its numbers, zero in its gap, its byte array, and zero in the byte behind that.
 fn put_message(out: &mut [u8], l: Layout, number: u16, f: Fields, plain: [u8; PLAIN])
-    requires { Sane l × (l.size ≤ length out.old) }
+    requires { Sane l × Whole l × (l.size ≤ length out.old) }
     ensures { out.new ≡ image_of l number f plain ++ drop l.size out.old }
 {
-    let size = l.size;
-    let start = l.plain;
-    let pad = l.pad;
-    let ends = ends_of(l);
-    let values = values_of(size, number, f);
-    put_values(out, ends, values);
-    put_plain(out, start, pad, plain);
-    put_value(out, pad, size, 0);
+    put(out, 0, 2, l.size as u16);
+    put(out, 2, 4, number);
+    put(out, 4, l.form, f.seconds);
+    put(out, l.form, l.form + 4, f.nanos);
+    put(out, l.form + 4, l.form + 8, f.index);
+    put(out, l.form + 8, l.order, f.number);
+    put(out, l.order, l.fresh, f.order);
+    put(out, l.fresh, l.id, f.fresh);
+    put(out, l.id, l.price, f.id);
+    put(out, l.price, l.volume, f.price);
+    put(out, l.volume, l.flag, f.volume);
+    put(out, l.flag, l.side, f.flag);
+    put(out, l.side, l.letter, f.side);
+    put(out, l.letter, l.gap, f.letter);
+    put(out, l.gap, l.plain, 0u8);
+    put_plain(out, l.plain, l.pad, plain);
+    put(out, l.pad, l.size, 0u8);
 }

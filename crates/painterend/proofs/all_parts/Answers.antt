@@ -1,22 +1,36 @@
--- Each turn of the loop is a turn of a course, and leaves the next one ready.
-use borrow.Author.Rules.{rules}
-use Rattle.painterend.proofs.Courses.{reached_start, reached_turn, reached_ran}
-use Rattle.painterend.proofs.Printing.{printing_start, printing_turn, printing_ends}
+-- Each turn of the loop is a turn of a course, and leaves the next one ready; one that failed is reported.
+use Rattle.painterend.proofs.Apart.{reading_failed}
+use Rattle.painterend.proofs.Courses.{reached_start, ready_again, reached_ran}
+use Rattle.painterend.proofs.Printing.{printing_start, printing_turn, printing_fails, printing_ends}
 use Rattle.painterend.proofs.all_parts.Goals as goal
+use Rattle.painterend.proofs.all_parts.Goals.{in-Ok, in-Err}
 
-pub loop-turns-init : goal.loop-turns-init
-loop-turns-init g c =
-    let x = reached_start c.start.result c.reading-s.result c.part_room-space.result c.part_room-sheet.result c.start.ensures c.reading-s.ensures (search rules) (search rules) in
-    (search rules, search rules, x.0, printing_start c.start.result c.reading-s.result _ _ _ c.start.ensures c.reading-s.ensures)
+pub loop-init : goal.loop-init
+loop-init g c = (
+  (reached_start c.start.result c.reading-s.result c.new-desk.result.buffer c.start.ensures c.reading-s.ensures).0,
+  printing_start c.start.result c.reading-s.result _ _ _ c.start.ensures c.reading-s.ensures,
+)
 
-pub loop-turns-preserved : goal.loop-turns-preserved
-loop-turns-preserved g c =
-    let p = c.loop-turns.invariant.3 in
-    let x = reached_turn _ _ _ _ _ _ p.reached c.if-s.true c.turn-s.ensures.turn c.written-s.ensures.state in
-    (search rules, search rules, x.0, printing_turn _ _ _ _ _ _ _ _ _ _ _ _ _ p c.if-s.true (c.loop-turns.invariant.2 c.if-s.true) c.turn-s.ensures.turn c.turn-s.ensures.reads c.written-s.ensures.state c.written-s.ensures.bytes)
+pub returns-in_default : goal.returns-in_default
+returns-in_default g c = record { ran = reached_ran _ _ c.loop.invariant.1.reached; prints = printing_ends _ _ _ _ _ _ c.loop.invariant.1 }
 
-pub returns-else-s : goal.returns-else-s
-returns-else-s g c = record { ran = reached_ran _ _ c.loop-turns.invariant.3.reached; prints = printing_ends _ _ _ _ _ _ c.loop-turns.invariant.3 }
+pub loop-preserved : goal.loop-preserved
+loop-preserved g c =
+    let p = c.loop.invariant.1 in
+    let on = c.in-Reading.is in
+    elim c.match-turn.branch [
+      | in-Ok w ↦ let t = w.in-Ok.ensures in let z = w.written-s.ensures in rw (w.s-is, w.paper-is) (
+        ready_again c.loop.s c.loop.desk.buffer _ _ c.turn.new.self.sheet _ t.turn z.state,
+        printing_turn c.loop.s c.loop.desk.buffer _ _ _ _ _ _ _ _ _ _ p on (c.loop.invariant.0 on) t.turn t.reads z.state z.bytes,
+      )
+      | in-Err w ↦ let f = w.reported-s.ensures in rw (w.s-is, w.paper-is) (
+        λ h. absurd (reading_failed h f.over),
+        printing_fails c.loop.s c.loop.desk.buffer _ _ _ _ _ _ _ p w.in-Err.ensures.reads f,
+      )
+    ]
 
-pub returns-after-loop-turns : goal.returns-after-loop-turns
-returns-after-loop-turns g c = record { ran = reached_ran _ _ c.loop-turns.invariant.3.reached; prints = printing_ends _ _ _ _ _ _ c.loop-turns.invariant.3 }
+pub returns-clause-ran : goal.returns-clause-ran
+returns-clause-ran g c = reached_ran _ _ c.loop.invariant.1.reached
+
+pub returns-clause-prints : goal.returns-clause-prints
+returns-clause-prints g c = printing_ends _ _ _ _ _ _ c.loop.invariant.1

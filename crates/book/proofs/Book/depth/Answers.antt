@@ -1,18 +1,9 @@
--- The rows of the symbol at the place that was found, unless it is stale.
-use mathlib.Core.Bool.{true, false}
-use mathlib.Core.Path.{◌∙◌}
-use Rattle.book.proofs.Asking.{depth_missing, depth_at}
+-- The rows of the symbol that is shown.
+use Rattle.book.proofs.Asking.{depth_hidden, depth_shown}
 use Rattle.book.proofs.Book.depth.Goals as goal
 
-pub returns-then-k-ge-SYMBOLS : goal.returns-then-k-ge-SYMBOLS
-returns-then-k-ge-SYMBOLS c = c.no_depth.ensures ∙ depth_missing c.args.self _ _ c.place_of-k.ensures c.if-k-ge-SYMBOLS.true
+pub returns-in-Ok : goal.returns-in-Ok
+returns-in-Ok c = rw (c.rows-in-Ok.ensures, c.rows.ensures) (depth_shown c.args.self.now _ _ (rw c.in-Ok.is at c.shown.ensures))
 
-pub returns-then-s : goal.returns-then-s
-returns-then-s c = let s = c.args.self in
-    c.no_depth-then-s.ensures ∙ depth_at s _ _ c.place_of-k.ensures c.if-k-ge-SYMBOLS.false _ c.standing-s.ensures true c.if-s.true
-
-pub returns : goal.returns
-returns c = let s = c.args.self in
-    let k = c.place_of-k in
-    rw (c.rows-2.ensures, c.rows.ensures)
-    (depth_at s _ _ k.ensures c.if-k-ge-SYMBOLS.false _ c.standing-s.ensures false c.if-s.false)
+pub returns-in-Err : goal.returns-in-Err
+returns-in-Err c = rw (c.no_depth.ensures, c.from.ensures) (depth_hidden c.args.self.now _ _ (rw c.in-Err.is at c.shown.ensures))

@@ -1,10 +1,10 @@
--- Whether the change fits decides: the symbol becomes stale with the number of the fit, or the deal goes with it and the number is used.
-use mathlib.Core.Path.{sym, ◌∙◌}
-use Rattle.book.proofs.Stores.{enacts_refused, enacts_fitting}
+-- Whether the change fits decides: the deal goes with it and the number is used, or the symbol becomes stale with the number of the refusal.
+use Rattle.book.proofs.Stores.{enacts_refused, enacts_done}
 use Rattle.book.proofs.Book.enact.Goals as goal
 
-pub returns-then-answer-ne0 : goal.returns-then-answer-ne0
-returns-then-answer-ne0 c = enacts_refused c.args.self c.args.k c.args.change c.args.deal c.requires _ c.change-c.ensures _ c.number_of_fit-answer.ensures c.if-answer-ne0.true _ c.make_stale.ensures
+pub returns-in-Ok : goal.returns-in-Ok
+returns-in-Ok c = enacts_done c.args.self.now _ _ c.args.deal _ c.args.seat.below (λ w. (rw c.in-Ok.is at c.change.ensures).obeys c.args.seat.below w.orders)
+    (record { trades = c.deal.new.self; lost = c.is_err-lost.result }) (λ w. rw c.is_err-lost.ensures.value (c.deal.ensures.obeys c.args.seat.below w.trades)) _ (λ w. c.count.ensures)
 
-pub returns : goal.returns
-returns c = enacts_fitting c.args.self c.args.k c.args.change c.args.deal c.requires _ c.change-c.ensures (sym c.number_of_fit-answer.ensures ∙ c.if-answer-ne0.false) _ c.deal-d.ensures _ c.count-symbols.ensures
+pub returns-in-Err : goal.returns-in-Err
+returns-in-Err c = rw c.from.ensures (enacts_refused c.args.self.now _ _ c.args.deal _ _ (rw c.in-Err.is at c.change.ensures) _ c.make_stale.ensures)

@@ -4,4 +4,4 @@ use Rattle.book.proofs.Views.{view_market}
 use Rattle.book.proofs.Book.market.Goals as goal
 
 pub returns : goal.returns
-returns c = c.market_of.ensures ∙ sym (view_market c.args.self)
+returns c = c.market_of.ensures ∙ sym (view_market c.args.self.now)

@@ -3,4 +3,4 @@ use Rattle.book.proofs.Beginning.{fresh}
 use Rattle.book.proofs.Book.new.Goals as goal
 
 pub returns : goal.returns
-returns c = rw (c.new-symbols.ensures, c.new-orders.ensures, c.new-trades.ensures, c.number_of.ensures) (fresh _)
+returns c = rw (c.new-symbols.ensures, c.new-orders.ensures, c.new-trades.ensures, c.from.ensures) (fresh _)

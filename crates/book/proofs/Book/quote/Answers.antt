@@ -1,16 +1,9 @@
--- The levels of the symbol at the place that was found, unless it is stale.
-use mathlib.Core.Bool.{true, false}
-use Rattle.book.proofs.Asking.{quote_missing, quote_at}
+-- The levels of the symbol that is shown.
+use Rattle.book.proofs.Asking.{quote_hidden, quote_shown}
 use Rattle.book.proofs.Book.quote.Goals as goal
 
-pub returns-then-k-ge-SYMBOLS : goal.returns-then-k-ge-SYMBOLS
-returns-then-k-ge-SYMBOLS c = quote_missing c.args.self _ _ c.place_of-k.ensures c.if-k-ge-SYMBOLS.true
+pub returns-in-Ok : goal.returns-in-Ok
+returns-in-Ok c = rw (c.level-in-Ok.ensures, c.level.ensures) (quote_shown c.args.self.now _ _ (rw c.in-Ok.is at c.shown.ensures))
 
-pub returns-then-s : goal.returns-then-s
-returns-then-s c = quote_at c.args.self _ _ c.place_of-k.ensures c.if-k-ge-SYMBOLS.false _ c.standing-s.ensures true c.if-s.true
-
-pub returns : goal.returns
-returns c = let s = c.args.self in
-    let k = c.place_of-k in
-    rw (c.level-2.ensures, c.level.ensures)
-    (quote_at s _ _ k.ensures c.if-k-ge-SYMBOLS.false _ c.standing-s.ensures false c.if-s.false)
+pub returns-in-Err : goal.returns-in-Err
+returns-in-Err c = rw (c.no_quote.ensures, c.from.ensures) (quote_hidden c.args.self.now _ _ (rw c.in-Err.is at c.shown.ensures))

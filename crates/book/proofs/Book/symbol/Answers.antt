@@ -3,4 +3,4 @@ use Rattle.book.proofs.Asking.{tells}
 use Rattle.book.proofs.Book.symbol.Goals as goal
 
 pub returns : goal.returns
-returns c = tells c.args.self _ _ c.told.ensures
+returns c = tells c.args.self.now _ _ c.told.ensures

@@ -1,19 +1,14 @@
--- The number names a market, or it doesn't.
-use mathlib.Core.Path.{◌≡◌, sym, ap, ◌∙◌}
-use Prim.Native.Nat.{ℕ}
-use Rattle.markets.specs.Numbers.{named_of, is_named, market_in, market_of}
-use Rattle.markets.specs.declared.Named.{Named}
-use Rattle.book.specs.State.{Fresh}
-use Rattle.book.specs.declared.Book.{Book}
-use Rattle.host.specs.Made.{MadeFor}
+-- A number names a market where converting it gives one.
+use mathlib.Core.Path.{◌≡◌, refl, ap, ◌∙◌}
+use Rattle.std.specs.Prelude.{Option, None, Some, is_ok}
+use Rattle.std.specs.Option.{ok_or}
+use Rattle.markets.specs.Numbers.{is_named}
+use Rattle.markets.specs.declared.Market.{Market}
 use Rattle.host.proofs.made.painterend_new.Goals as goal
 
-made : (n : ℕ) (x : Named) → named_of n ≡ x → (b : Book) → Fresh (market_in x) b → MadeFor n (record { book = b; known = is_named x })
-unfolding market_of
-made n x e b f = record { known = sym (ap is_named e); fresh = rw e f }
+told : {E : Type 0} (x : Option Market) (e : E) → is_ok (ok_or x e) ≡ is_named x
+told (Some m) e = refl
+told None e = refl
 
-pub returns-in-Market : goal.returns-in-Market
-returns-in-Market c = made _ _ (sym c.market_named-n.ensures ∙ c.in-Market.is) _ c.new-book.ensures
-
-pub returns-in-Unknown : goal.returns-in-Unknown
-returns-in-Unknown c = made _ _ (sym c.market_named-n.ensures ∙ c.in-Unknown.is) _ c.new-book-in-Unknown.ensures
+pub returns : goal.returns
+returns c = record { known = c.is_ok.ensures.value ∙ ap is_ok c.try_from.ensures ∙ told _ _; fresh = rw c.market_of.ensures at c.new.ensures }

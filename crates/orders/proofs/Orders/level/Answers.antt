@@ -1,19 +1,19 @@
 -- The best price and the sum over the places are those of the live orders; past the eighth symbol there are none.
 use mathlib.Core.Path.{sym, ap, ◌∙◌}
-use Rattle.orders.specs.State.{live_at}
+use borrow.Author.Rules.{rules}
+use Rattle.orders.specs.State.{shelf_at, live_at}
 use Rattle.orders.specs.Levels.{level_of}
-use Rattle.orders.proofs.Sizes.{places_size}
 use Rattle.orders.proofs.Storing.{none_past}
-use Rattle.orders.proofs.Quoting.{level_none, level_empty, level_best}
+use Rattle.orders.proofs.Quoting.{level_none, level_view}
 use Rattle.orders.proofs.Orders.level.Goals as goal
 
-pub returns-then-k-ge-SYMBOLS : goal.returns-then-k-ge-SYMBOLS
-returns-then-k-ge-SYMBOLS c = sym (ap (level_of c.args.buy) (none_past c.args.self c.args.k (places_size c.args.self _ c.well_formed.0) c.if-k-ge-SYMBOLS.true) ∙ level_none c.args.buy)
+pub returns-in_err-seat : goal.returns-in_err-seat
+returns-in_err-seat c = c.from_residual.ensures ∙ sym (ap (level_of c.args.buy) (none_past c.args.self.now c.args.k (search rules) c.in_err-seat.ensures.none) ∙ level_none c.args.buy)
 
-pub returns-then-b : goal.returns-then-b
+pub returns-in_err-price : goal.returns-in_err-price
 unfolding live_at
-returns-then-b c = level_best _ _ _ c.best-b.ensures _ c.if-b.true c.shares_at-size.ensures
+returns-in_err-price c = rw (c.from_residual-in_err-price.ensures, level_view c.args.buy (shelf_at c.args.self.now c.args.k), ← c.in_ok-seat.ensures.seat, ← c.shelf-shelf.ensures, ← c.best.ensures, c.in_err-price.was)
 
 pub returns : goal.returns
 unfolding live_at
-returns c = level_empty _ _ _ c.best-b.ensures c.if-b.false
+returns c = rw (level_view c.args.buy (shelf_at c.args.self.now c.args.k), ← c.in_ok-seat.ensures.seat, ← c.shelf-shelf.ensures, ← c.best.ensures, c.in_ok-price.was, c.shares_at-size.ensures)

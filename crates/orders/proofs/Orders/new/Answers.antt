@@ -2,4 +2,4 @@
 use Rattle.orders.proofs.Orders.new.Goals as goal
 
 pub returns : goal.returns
-returns c = rw c.no_order-o.ensures
+returns c = rw c.no_order.ensures

@@ -19,13 +19,13 @@ pub loop-market-init : goal.loop-market-init
 loop-market-init c = (refl, (search rules, rest_all _ _ _ _ _ _))
 
 pub returns-then-t-r : goal.returns-then-t-r
-returns-then-t-r c = let l = c.loop-market.invariant in full l.1.1 l.0 _ _ (c.market-market.ensures ∙ sym l.1.1.same_market) (told _ _ c.names-names.ensures) _ _ (search rules) c.run_noted-r.result c.run_noted-r.ensures c.lay_noted-t.result _ c.lay_noted-t.ensures c.if-second-gt-LAST_SECOND.false c.if-t-r.true c.run_some-q.result c.run_some-q.ensures
+returns-then-t-r c = let l = c.loop-market.invariant in full l.1.1 l.0 (c.market-market.ensures ∙ sym l.1.1.same_market) (told _ _ c.names-names.ensures) c.run_noted-r.ensures c.lay_noted-t.ensures (search rules) c.if-second-gt-LAST_SECOND.false c.if-t-r.true c.run_some-q.result c.run_some-q.ensures
 
 pub returns-then-r-ne-NO_ROOM : goal.returns-then-r-ne-NO_ROOM
-returns-then-r-ne-NO_ROOM c = let l = c.loop-market.invariant in stopped l.1.1 l.0 _ _ (c.market-market.ensures ∙ sym l.1.1.same_market) (told _ _ c.names-names.ensures) _ _ (search rules) c.run_noted-r.result c.run_noted-r.ensures c.lay_noted-t.result _ c.lay_noted-t.ensures c.if-t-r.false c.if-second-gt-LAST_SECOND.false c.if-r-ne-NO_ROOM.true
+returns-then-r-ne-NO_ROOM c = let l = c.loop-market.invariant in stopped l.1.1 l.0 (c.market-market.ensures ∙ sym l.1.1.same_market) (told _ _ c.names-names.ensures) c.run_noted-r.ensures c.lay_noted-t.ensures (search rules) c.if-t-r.false c.if-second-gt-LAST_SECOND.false c.if-r-ne-NO_ROOM.true
 
 pub loop-market-smaller : goal.loop-market-smaller
-loop-market-smaller c = let l = c.loop-market.invariant in let o = onward l.1.1 l.0 _ _ (c.market-market.ensures ∙ sym l.1.1.same_market) (told _ _ c.names-names.ensures) _ _ (search rules) c.run_noted-r.result c.run_noted-r.ensures c.lay_noted-t.result _ c.lay_noted-t.ensures c.if-t-r.false (omega (arith, l.1.0)) c.if-r-ne-NO_ROOM.false in omega (arith, o.0, o.1)
+loop-market-smaller c = let l = c.loop-market.invariant in let o = onward l.1.1 l.0 (c.market-market.ensures ∙ sym l.1.1.same_market) (told _ _ c.names-names.ensures) c.run_noted-r.ensures c.lay_noted-t.ensures (search rules) c.if-t-r.false (omega (arith, l.1.0)) c.if-r-ne-NO_ROOM.false in omega (arith, o.0, o.1)
 
 pub loop-market-preserved : goal.loop-market-preserved
-loop-market-preserved c = let l = c.loop-market.invariant in (search rules, (search rules, next l.1.1 l.0 _ _ (c.market-market.ensures ∙ sym l.1.1.same_market) (told _ _ c.names-names.ensures) _ _ (search rules) c.run_noted-r.result c.run_noted-r.ensures c.lay_noted-t.result _ c.lay_noted-t.ensures c.if-t-r.false))
+loop-market-preserved c = let l = c.loop-market.invariant in (search rules, (search rules, next l.1.1 l.0 (c.market-market.ensures ∙ sym l.1.1.same_market) (told _ _ c.names-names.ensures) c.run_noted-r.ensures c.lay_noted-t.ensures (search rules) c.if-t-r.false))

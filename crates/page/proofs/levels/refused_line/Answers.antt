@@ -6,4 +6,4 @@ use Rattle.page.proofs.levels.refused_line.Goals as goal
 
 pub returns : goal.returns
 unfolding rendered
-returns c = held_all (refusal_has_room c.args.answer) (holds_then (holds_first c.blank.ensures (adds_then c.push-d.ensures (adds_last c.number_column.ensures))) c.push.ensures)
+returns c = held_all (refusal_has_room c.args.answer) (holds_then (holds_first c.blank-l.ensures (adds_then c.push.ensures (adds_last c.number_column.ensures))) c.push-2.ensures)

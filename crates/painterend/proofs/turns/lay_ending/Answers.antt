@@ -5,6 +5,6 @@ use Rattle.painterend.proofs.turns.lay_ending.Goals as goal
 
 pub returns : goal.returns
 returns c =
-    let p = c.lay_end-p.ensures in
-    let e = end_laid _ c.args.out.now _ c.lay_end-p.result c.count_of_line.result p.fits c.requires p.out_after c.count_of_line.ensures in
-    record { text = e.0; within = e.1; over = refl; good = refl }
+    let p = c.lay_end-end.ensures in
+    let e = end_laid _ c.args.sheet.now _ c.lay_end-end.result c.count_of.result p.fits c.requires p.out_after c.count_of.ensures in
+    record { text = e.0; within = e.1; over = refl }

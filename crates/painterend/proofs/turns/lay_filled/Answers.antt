@@ -7,4 +7,4 @@ use Rattle.painterend.proofs.turns.lay_filled.Goals as goal
 pub returns : goal.returns
 returns c =
     let a = c.args in
-    filled_laid a.l a.full a.buffer.now a.out.now c.lay-laid.result _ c.requires.0 c.requires.1 (λ i. omega (arith, c.type_inv.buffer i)) (search rules) c.lay-laid.ensures
+    filled_laid a.l a.part.now a.sheet.now c.lay.result _ c.requires.0 c.requires.1 (λ i. omega (arith, c.type_inv.part i)) (search rules) c.lay.ensures

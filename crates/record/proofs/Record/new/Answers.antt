@@ -2,4 +2,4 @@
 use Rattle.record.proofs.Record.new.Goals as goal
 
 pub returns : goal.returns
-returns c = rw (c.no_trade-t.ensures, c.no_cross-c.ensures)
+returns c = rw (c.empty-t.ensures, c.empty-c.ensures)

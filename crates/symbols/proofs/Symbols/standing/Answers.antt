@@ -6,12 +6,12 @@ use Rattle.symbols.proofs.Symbols.standing.Goals as goal
 
 pub returns-then-k-ge-SYMBOLS : goal.returns-then-k-ge-SYMBOLS
 unfolding standing_of
-returns-then-k-ge-SYMBOLS c = c.no_standing.ensures ∙ sym (ap standing_of (entry_past c.args.self c.args.k c.if-k-ge-SYMBOLS.true))
+returns-then-k-ge-SYMBOLS c = c.no_standing.ensures ∙ sym (ap standing_of (entry_past c.args.self.now c.args.k c.if-k-ge-SYMBOLS.true))
 
 pub returns-then-p : goal.returns-then-p
 unfolding standing_of
-returns-then-p c = sym (ap standing_of (entry_there c.args.self c.args.k c.if-k-ge-SYMBOLS.false c.if-p.true))
+returns-then-p c = sym (ap standing_of (entry_there c.args.self.now c.args.k c.if-k-ge-SYMBOLS.false c.if-p.true))
 
 pub returns : goal.returns
 unfolding standing_of
-returns c = c.no_standing-2.ensures ∙ sym (ap standing_of (entry_missing c.args.self c.args.k c.if-k-ge-SYMBOLS.false c.if-p.false))
+returns c = c.no_standing-2.ensures ∙ sym (ap standing_of (entry_missing c.args.self.now c.args.k c.if-k-ge-SYMBOLS.false c.if-p.false))

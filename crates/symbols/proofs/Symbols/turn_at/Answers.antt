@@ -8,7 +8,7 @@ use Rattle.symbols.proofs.Symbols.turn_at.Goals as goal
 
 pub returns-then-k-ge-SYMBOLS : goal.returns-then-k-ge-SYMBOLS
 unfolding turn_at
-returns-then-k-ge-SYMBOLS c = sym (ap (λ (x : Option Entry). turn_at x c.args.number) (entry_past c.args.self c.args.k c.if-k-ge-SYMBOLS.true))
+returns-then-k-ge-SYMBOLS c = sym (ap (λ (x : Option Entry). turn_at x c.args.number) (entry_past c.args.self.now c.args.k c.if-k-ge-SYMBOLS.true))
 
 pub returns : goal.returns
-returns c = c.turn_of.ensures ∙ sym (ap (λ (x : Option Entry). turn_at x c.args.number) (entry_at c.args.self c.args.k c.if-k-ge-SYMBOLS.false))
+returns c = c.turn_of.ensures ∙ sym (ap (λ (x : Option Entry). turn_at x c.args.number) (entry_at c.args.self.now c.args.k c.if-k-ge-SYMBOLS.false))

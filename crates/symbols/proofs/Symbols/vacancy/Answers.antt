@@ -1,23 +1,12 @@
--- The places passed have symbols, so the first without one, or the end, is the vacancy of the entries.
-use mathlib.Core.Bool.{Bool, true, false, cond}
-use mathlib.Core.Path.{◌≡◌, sym, ap, ◌∙◌}
-use native.Mathlib.Omega.{arith}
-use Rattle.places.proofs.Searching.{passed_hit, passed_more, passed_all}
-use Rattle.places.specs.Places.{symbols}
-use Rattle.symbols.specs.State.{nowhere}
-use Rattle.symbols.proofs.Sizes.{places_size}
-use Rattle.symbols.proofs.Entries.{unused, vacancy_is}
+-- The first place that is not used is the vacancy among the entries.
+use borrow.Author.Tests.{tests}
+use mathlib.Core.Bool.{true, false}
+use mathlib.Core.Path.{◌≡◌}
+use Rattle.std.proofs.Common.{rules}
+use Rattle.std.proofs.lemmas.Iterator.{IsFirst-from_position, YieldsList-from_slice}
+use Rattle.symbols.proofs.Entries.{unused, vacant_place}
 use Rattle.symbols.proofs.Symbols.vacancy.Goals as goal
 
-pub loop-j-preserved : goal.loop-j-preserved
-loop-j-preserved c = let len = places_size c.args.self _ c.well_formed.0 in
-    (omega arith, passed_more unused c.args.self.places c.loop-j.j nowhere (omega arith) (ap (λ (u : Bool). cond u false true) c.if-p.true) c.loop-j.invariant.1)
-
-pub returns-then-j-ge-SYMBOLS : goal.returns-then-j-ge-SYMBOLS
-returns-then-j-ge-SYMBOLS c = let len = places_size c.args.self _ c.well_formed.0 in
-    let e : c.loop-j.j ≡ symbols = omega arith in
-    sym (passed_all unused c.args.self.places symbols len (rw e at c.loop-j.invariant.1)) ∙ vacancy_is c.args.self len
-
-pub returns-else-p : goal.returns-else-p
-returns-else-p c = let len = places_size c.args.self _ c.well_formed.0 in
-    sym (passed_hit unused c.args.self.places c.loop-j.j nowhere (omega arith) (ap (λ (u : Bool). cond u false true) c.if-p.false) c.loop-j.invariant.1) ∙ vacancy_is c.args.self len
+pub returns : goal.returns
+returns c = vacant_place c.args.self.now (search rules) _
+    (IsFirst-from_position _ _ _ (λ y. unused y ≡ true) (λ y. unused y ≡ false) c.position.ensures.ran (YieldsList-from_slice c.args.self.now.places cc) (λ x q k. search (rules, tests)) (λ x q k. search (rules, tests)))

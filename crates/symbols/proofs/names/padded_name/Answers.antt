@@ -1,6 +1,6 @@
--- The bytes copied are the name's, and the rest are still zero.
-use Rattle.symbols.proofs.Padding.{copied_all}
+-- The name is written over the first of eleven zeros.
+use Rattle.symbols.proofs.Padding.{padded_over_zeros}
 use Rattle.symbols.proofs.names.padded_name.Goals as goal
 
 pub returns : goal.returns
-returns c = copied_all _ _ _ c.loop-j-test.false c.loop-j.invariant.1
+returns c = rw c.copy_from_slice.ensures.after (padded_over_zeros c.args.name.now c.requires)

@@ -1,20 +1,35 @@
 -- The tests are those of the definition, in its order.
+use mathlib.Core.Path.{◌≡◌}
+use native.Mathlib.Omega.{arith}
 use borrow.Author.Tests.{lt-ltb, le-ltb}
+use Prim.Native.Nat.{◌<◌, ◌≤◌}
+use Rattle.std.proofs.lemmas.Cmp.{ranked}
 use Rattle.feed.specs.Reader.{ruled}
 use Rattle.symbols.proofs.turns.turn.Goals as goal
 
-pub returns-then-stale : goal.returns-then-stale
+pub returns-then-s : goal.returns-then-s
 unfolding ruled
-returns-then-stale c = rw c.if-stale.true
+returns-then-s c = rw c.if-s.true
 
-pub returns-then-n-expected : goal.returns-then-n-expected
+pub returns-in-Less : goal.returns-in-Less
 unfolding ruled
-returns-then-n-expected c = rw (c.if-stale.false, lt-ltb _ _ c.if-n-expected.true)
+returns-in-Less c =
+    let below : c.from.result < c.args.s.expected = ranked c.from.result c.args.s.expected _ c.in-Less.ensures in
+    let lower : c.args.number < c.args.s.expected = omega (arith, below, c.from.ensures) in
+    rw (c.if-s.false, lt-ltb _ _ lower)
 
-pub returns-then-expected-n : goal.returns-then-expected-n
+pub returns-in-Equal : goal.returns-in-Equal
 unfolding ruled
-returns-then-expected-n c = rw (c.if-stale.false, le-ltb _ _ c.if-n-expected.false, lt-ltb _ _ c.if-expected-n.true)
+returns-in-Equal c =
+    let same : c.from.result ≡ c.args.s.expected = ranked c.from.result c.args.s.expected _ c.in-Equal.ensures in
+    let above : c.args.s.expected ≤ c.args.number = omega (arith, same, c.from.ensures) in
+    let below : c.args.number ≤ c.args.s.expected = omega (arith, same, c.from.ensures) in
+    rw (c.if-s.false, le-ltb _ _ above, le-ltb _ _ below)
 
-pub returns : goal.returns
+pub returns-in-Greater : goal.returns-in-Greater
 unfolding ruled
-returns c = rw (c.if-stale.false, le-ltb _ _ c.if-n-expected.false, le-ltb _ _ c.if-expected-n.false)
+returns-in-Greater c =
+    let above : c.args.s.expected < c.from.result = ranked c.from.result c.args.s.expected _ c.in-Greater.ensures in
+    let higher : c.args.s.expected < c.args.number = omega (arith, above, c.from.ensures) in
+    let not_below : c.args.s.expected ≤ c.args.number = omega (arith, higher) in
+    rw (c.if-s.false, le-ltb _ _ not_below, lt-ltb _ _ higher)

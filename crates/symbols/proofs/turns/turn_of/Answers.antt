@@ -6,6 +6,6 @@ pub returns-then-p : goal.returns-then-p
 unfolding turn_at
 returns-then-p c = rw c.if-p.true c.turn.ensures
 
-pub returns : goal.returns
+pub returns-else-p : goal.returns-else-p
 unfolding turn_at
-returns c = rw c.if-p.false
+returns-else-p c = rw c.if-p.false

@@ -1,14 +1,18 @@
--- So few bytes are written out (`padded_four`). Else, after i turns, the array is the first i bytes of the part, pasted over zeros.
-use mathlib.Core.Path.{◌∙◌}
-use native.Mathlib.Omega.{arith}
+-- Copied over zeros, the bytes have zeros behind them.
+use Rattle.std.proofs.lemmas.List.{drop-replicate}
+use Rattle.std.proofs.lemmas.Slice.{between_is}
+use mathlib.Core.List.{List, ◌++◌}
+use mathlib.Core.Path.{ap, sym, ◌∙◌}
+use Prim.Native.Nat.{ℕ}
+use lib.ListN.{length, drop, replicate}
 use lib.Seq.{slice, length-slice}
-use Rattle.wire.proofs.ByteArrays.{copied_next, pasted_is_padded}
+use Rattle.wire.specs.Bytes.{plain_room}
 use Rattle.wire.proofs.bytes.plain_at.Goals as goal
-
-pub loop-i-preserved : goal.loop-i-preserved
-loop-i-preserved c = (omega arith, copied_next c.args.s.now c.args.a c.args.e c.loop-i.i c.loop-i.r c.requires.0 c.requires.1 c.requires.2 c.loop-i-test.true c.loop-i.invariant.1)
 
 pub returns : goal.returns
 returns c = let a = c.args in
-    let s = a.s.now in
-    c.loop-i.invariant.1 ∙ pasted_is_padded (slice a.a a.e s) c.loop-i.i (omega (arith, length-slice a.a a.e s (omega arith)))
+    let s : List ℕ = a.s.now in
+    let part = slice a.a a.e s in
+    let copied = c.copy_from_slice.ensures.after ∙ between_is s a.a a.e in
+    let long = length-slice a.a a.e s c.requires.2 in
+    (λ i. copied i ++ drop (sym long i) (replicate plain_room 0)) ∙ ap (λ (l : List ℕ). part ++ l) (drop-replicate (length part) plain_room 0)

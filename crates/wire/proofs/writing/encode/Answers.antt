@@ -1,21 +1,26 @@
--- By the type's shape and the first bad field: each case is one law of writing.
+-- By the type's layout, the first bad field and the room: each case is one law of writing.
+use Rattle.std.specs.Prelude.{Some, None, Err}
+use Rattle.std.proofs.lemmas.Result.{err_from_is_err_and}
 use mathlib.Core.Path.{◌≡◌, sym, ap, ◌∙◌, subst}
-use lib.Dec.{ltb}
-use lib.ListN.{length}
+use mathlib.Core.List.{List, ◌++◌}
 use Prim.Native.Nat.{ℕ}
-use mathlib.Core.List.{List}
+use native.Mathlib.Omega.{arith}
+use lib.ListN.{length, drop}
 use Rattle.markets.specs.declared.Market.{Market}
 use Rattle.wire.specs.declared.Message.{Message}
+use Rattle.wire.specs.declared.WriteError.{WriteError}
 use Rattle.wire.specs.declared.fields.Fields.{Fields}
+use Rattle.wire.specs.Outcome.{done, only}
 use Rattle.wire.specs.Table.{shape_of}
 use Rattle.wire.specs.Message.{fields_of}
 use Rattle.wire.specs.Fields.{array_of, fault_of}
 use Rattle.wire.specs.Bytes.{plain_room}
-use Rattle.wire.specs.Writing.{Write, image_of, write_sized, write_of}
+use Rattle.wire.specs.Writing.{Write, leaving, wrote, image_of, write_of}
 use Rattle.wire.specs.RoundTrip.{InRange, ReadsBack}
 use Rattle.wire.proofs.RoundTrip.{read_what_was_written}
-use Rattle.wire.proofs.Layouts.{layout_sane}
-use Rattle.wire.proofs.Cases.{write_unknown, write_bad_field, write_good}
+use Rattle.wire.proofs.Layouts.{layout_sane, layout_whole}
+use Rattle.wire.proofs.Cases.{write_unknown, write_bad_field, write_good, write_no_room, write_room}
+use Rattle.wire.proofs.Checks.{own_fault}
 use borrow.Author.Rules.{rules}
 use Rattle.wire.proofs.writing.encode.Goals as goal
 
@@ -23,32 +28,52 @@ use Rattle.wire.proofs.writing.encode.Goals as goal
 reads : (market : Market) (m : Message) (plain out : List ℕ) {w : Write} → length plain ≡ plain_room → InRange (fields_of m) → w ≡ write_of market m plain out → ReadsBack market m plain w
 reads market m plain out long fits e = subst (ReadsBack market m plain) (sym e) (read_what_was_written market m plain out long fits)
 
-pub returns-in_default : goal.returns-in_default
-returns-in_default c =
+pub returns-in_err-l : goal.returns-in_err-l
+returns-in_err-l c =
     let a = c.args in
-    let e = sym (write_unknown a.market a.m a.plain a.out.now (ap shape_of (sym c.type_of-number.ensures) ∙ sym c.shape_of-shape.ensures ∙ c.in_default.is)) in
-    record { writes = e; reads_back = reads a.market a.m a.plain a.out.now (search rules) c.fields_of-f.ensures.1 e }
+    let p = err_from_is_err_and c.from_residual.result c.from_residual.ensures.1 in
+    let unknown : c.shape_of.result ≡ None = grind arith in
+    let why : c.from_residual.result ≡ Err WriteError.BadType = grind (arith, p.1, p.2) in
+    let e = ap (λ w. wrote w a.out.now) why ∙ sym (write_unknown a.market a.m a.plain a.out.now (ap shape_of (sym c.type_of-number.ensures) ∙ sym c.shape_of.ensures ∙ unknown)) in
+    record { writes = e; reads_back = reads a.market a.m a.plain a.out.now (search rules) c.from-f.ensures.1 e }
 
-pub fault_of-fault-requires : goal.fault_of-fault-requires
-fault_of-fault-requires c = layout_sane _ _ (ap shape_of (sym c.type_of-number.ensures) ∙ sym c.shape_of-shape.ensures ∙ c.in-Known.is)
+pub fault_of-requires : goal.fault_of-requires
+fault_of-requires c =
+    let known : c.shape_of.result ≡ Some c.in_ok-l.l = grind arith in
+    let sane = layout_sane _ _ (sym c.shape_of.ensures ∙ known) in
+    omega arith
 
-pub encode_good-requires : goal.encode_good-requires
-encode_good-requires c = layout_sane _ _ (ap shape_of (sym c.type_of-number.ensures) ∙ sym c.shape_of-shape.ensures ∙ c.in-Known.is)
-
-pub returns-in-At : goal.returns-in-At
-returns-in-At c =
+pub returns-in-Some : goal.returns-in-Some
+returns-in-Some c =
     let a = c.args in
-    let l = c.in-Known.l in
-    let e = sym (write_bad_field a.market a.m a.plain a.out.now l (ap shape_of (sym c.type_of-number.ensures) ∙ sym c.shape_of-shape.ensures ∙ c.in-Known.is) _
-    (ap (λ (f : Fields). fault_of a.market l f (array_of l a.plain)) (sym c.fields_of-f.ensures.0) ∙ sym c.fault_of-fault.ensures ∙ c.in-At.is)) in
-    record { writes = e; reads_back = reads a.market a.m a.plain a.out.now (search rules) c.fields_of-f.ensures.1 e }
+    let l = c.in_ok-l.l in
+    let known : c.shape_of.result ≡ Some l = grind arith in
+    let e = sym (write_bad_field a.market a.m a.plain a.out.now l (ap shape_of (sym c.type_of-number.ensures) ∙ sym c.shape_of.ensures ∙ known) c.in-Some.n
+    (ap (λ (f : Fields). fault_of a.market l f (array_of l a.plain)) (sym c.from-f.ensures.0) ∙ own_fault a.market l (layout_sane _ _ (sym c.shape_of.ensures ∙ known)) _ a.plain ∙ sym c.fault_of.ensures ∙ c.in-Some.is)) in
+    record { writes = e; reads_back = reads a.market a.m a.plain a.out.now (search rules) c.from-f.ensures.1 e }
 
-pub returns-in-Nothing : goal.returns-in-Nothing
-returns-in-Nothing c =
+pub returns-then-out-l : goal.returns-then-out-l
+returns-then-out-l c =
     let a = c.args in
-    let l = c.in-Known.l in
-    let e = c.encode_good.ensures
-    ∙ (λ j. write_sized (ltb (length a.out.now) l.size) l.size (image_of l (c.type_of-number.ensures j) (c.fields_of-f.ensures.0 j) a.plain) a.out.now)
-    ∙ sym (write_good a.market a.m a.plain a.out.now l (ap shape_of (sym c.type_of-number.ensures) ∙ sym c.shape_of-shape.ensures ∙ c.in-Known.is)
-    (ap (λ (f : Fields). fault_of a.market l f (array_of l a.plain)) (sym c.fields_of-f.ensures.0) ∙ sym c.fault_of-fault.ensures ∙ c.in-Nothing.is)) in
-    record { writes = e; reads_back = reads a.market a.m a.plain a.out.now (search rules) c.fields_of-f.ensures.1 e }
+    let l = c.in_ok-l.l in
+    let known : c.shape_of.result ≡ Some l = grind arith in
+    let good = write_good a.market a.m a.plain a.out.now l (ap shape_of (sym c.type_of-number.ensures) ∙ sym c.shape_of.ensures ∙ known)
+    (ap (λ (f : Fields). fault_of a.market l f (array_of l a.plain)) (sym c.from-f.ensures.0) ∙ own_fault a.market l (layout_sane _ _ (sym c.shape_of.ensures ∙ known)) _ a.plain ∙ sym c.fault_of.ensures ∙ c.in_default.is) in
+    let e = sym (good ∙ write_no_room l.size _ a.out.now c.if-out-l.true) in
+    record { writes = e; reads_back = reads a.market a.m a.plain a.out.now (search rules) c.from-f.ensures.1 e }
+
+pub put_message-requires : goal.put_message-requires
+put_message-requires c =
+    let known : c.shape_of.result ≡ Some c.in_ok-l.l = grind arith in
+    let is = sym c.shape_of.ensures ∙ known in (layout_sane _ _ is, layout_whole _ _ is, c.if-out-l.false)
+
+pub returns : goal.returns
+returns c =
+    let a = c.args in
+    let l = c.in_ok-l.l in
+    let known : c.shape_of.result ≡ Some l = grind arith in
+    let good = write_good a.market a.m a.plain a.out.now l (ap shape_of (sym c.type_of-number.ensures) ∙ sym c.shape_of.ensures ∙ known)
+    (ap (λ (f : Fields). fault_of a.market l f (array_of l a.plain)) (sym c.from-f.ensures.0) ∙ own_fault a.market l (layout_sane _ _ (sym c.shape_of.ensures ∙ known)) _ a.plain ∙ sym c.fault_of.ensures ∙ c.in_default.is) in
+    let laid = c.put_message.ensures ∙ (λ j. image_of l (c.type_of-number.ensures j) (c.from-f.ensures.0 j) a.plain ++ drop l.size a.out.now) in
+    let e = ap (leaving (only (done l.size))) laid ∙ sym (good ∙ write_room l.size _ a.out.now c.if-out-l.false) in
+    record { writes = e; reads_back = reads a.market a.m a.plain a.out.now (search rules) c.from-f.ensures.1 e }

@@ -1,13 +1,13 @@
 -- The numbers, the array and the last byte, stored in turn, are the bytes of the message (`stored_in_turn`).
-use lib.ListN.{length}
-use Rattle.wire.proofs.Laying.{ends_rise, stored_in_turn}
+use mathlib.Core.Path.{◌≡◌}
+use Rattle.wire.specs.Bytes.{stored}
+use Rattle.wire.specs.Fields.{ends_of, values_of}
+use Rattle.wire.proofs.Laying.{stored_in_turn}
 use borrow.Author.Rules.{rules}
 use Rattle.wire.proofs.writing.put_message.Goals as goal
 
-pub put_values-requires : goal.put_values-requires
-put_values-requires c = rw c.ends_of-ends.ensures (ends_rise c.args.l c.requires.0 (length c.args.out.now) c.requires.1)
-
 pub returns : goal.returns
 returns c = let a = c.args in
-    stored_in_turn a.l c.requires.0 a.out.now a.plain a.number a.f c.requires.1 ((search rules)) _ _ _
-    (rw (c.ends_of-ends.ensures, c.values_of-values.ensures) at c.put_values.ensures) c.put_plain.ensures c.put_value.ensures
+    let l = a.l in
+    let numbers : c.put-15.new.out ≡ stored 0 (ends_of l) (values_of l.size a.number a.f) a.out.now = search rules in
+    stored_in_turn l c.requires.0 a.out.now a.plain a.number a.f c.requires.2 (search rules) _ _ _ numbers c.put_plain.ensures c.put-16.ensures
