@@ -2,8 +2,8 @@
 use mathlib.Core.Path.{◌≡◌, refl, ap, sym, ◌∙◌}
 use mathlib.Core.List.{[], ◌∷◌, ◌++◌, append-nil}
 use mathlib.Core.Bool.{Bool, true, false}
-use Prim.Native.Nat.{ℕ, zero, suc, ◌+◌, ◌-◌, ◌/◌, ◌%◌, ◌^◌, ◌≤◌, ◌<◌}
-use native.Mathlib.Nat.{pow-suc, pow-succ', div-one, div-div-eq-div-mul, div-lt_iff_lt-mul, mod-eq_of_lt}
+use Prim.Native.Nat.{ℕ, zero, suc, ◌+◌, ◌-◌, ◌*◌, ◌/◌, ◌%◌, ◌^◌, ◌≤◌, ◌<◌}
+use native.Mathlib.Nat.{pow-suc, pow-succ', div-one, div-div-eq-div-mul, div-lt_iff_lt-mul, div-eq_of_lt, mod-eq_of_lt}
 use native.Mathlib.Numerals.{add-one, sub-one}
 use native.Mathlib.Omega.{arith}
 use borrow.Author.Tests.{lt-ltb, le-ltb, ltb-true, ltb-false}
@@ -94,14 +94,22 @@ width_one n h = sym (ap length (digits_one n h))
 pub width_more : (n w : ℕ) → 10 ≤ n → n < 2 ^ 64 → w ≡ length (digits (n / 10)) → 1 + w ≡ length (digits n)
 width_more n w h k e = omega (arith, e, ap length (digits_more n h k), length-append (digits (n / 10)) (digit (n % 10) ∷ []))
 
--- ---- a price
-pub units_none : (p s : ℕ) → s ≡ 0 → p ≡ p / 10 ^ s
-units_none p s e = rw e (sym (div-one p))
+pub some_ten : (k : ℕ) → 0 < 10 ^ k
+some_ten zero = omega arith
+some_ten (suc k) = omega (arith, pow-succ' 10 k, some_ten k)
 
-pub units_more : (p s r : ℕ) → (s ≡ 0 → ⊥) → r ≡ p / 10 / 10 ^ (s - 1) → r ≡ p / 10 ^ s
-units_more p zero r h e = absurd (h refl)
-units_more p (suc s) r h e =
-    e ∙ ap (λ k. p / 10 / 10 ^ k) (sub-one (suc s)) ∙ div-div-eq-div-mul p 10 (10 ^ s) ∙ ap (λ k. p / k) (sym (pow-succ' 10 s))
+-- one digit more than its logarithm
+pub width_by : (k n : ℕ) → 10 ^ k ≤ n → n < 10 * 10 ^ k → n < 2 ^ 64 → k + 1 ≡ length (digits n)
+width_by zero n h l small = width_one n (omega arith)
+width_by (suc k) n h l small =
+    let ten = pow-succ' 10 k in
+    let tenth = width_by k (n / 10) (omega (arith, ten)) (omega (arith, ten)) (omega arith) in
+    omega (arith, width_more n (k + 1) (omega (arith, ten, some_ten k)) small tenth)
+
+-- ---- a price
+-- a power of ten past 64 bits leaves nothing before the last digits
+pub units_none : (p s : ℕ) → p < 2 ^ 64 → 2 ^ 64 ≤ 10 ^ s → 0 ≡ p / 10 ^ s
+units_none p s h k = sym (div-eq_of_lt (omega arith))
 
 pub priced_no_point : (s p r : ℕ) → s ≡ 0 → r ≡ p / 10 ^ s → priced s p ≡ digits r
 unfolding priced

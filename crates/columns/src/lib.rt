@@ -11,8 +11,8 @@ use std::marker::Model;
 // Room for a line, or for a quote, at any scale that a byte can hold. At a scale that can be registered a line has at most 111 bytes.
 pub const ROOM: usize = 640;
 
-// A line under construction, which is seen as what it holds: its first len bytes. Its room is an array with a length, since a library has no heap.
-#[derive(Drop)]
+// A line under construction, which is seen as what it holds: its first len bytes. Its room is an array with a length, since a library has no heap. It is no Copy: tried, and Rattle refuses one to a type whose model gives no field back.
+#[derive(Clone, Drop)]
 pub struct Line {
     bytes: [u8; ROOM],
     len: usize,
@@ -72,18 +72,18 @@ impl Line {
         self.push(b',');
     }
 
-    // The last w digits of n.
-    fn put_fixed(&mut self, n: u64, w: usize)
+    // The last w digits of n. No format lays them: `{n:0w$}` shows the digits before them too.
+    fn put_fixed(&mut self, n: u64, w: u32)
         ensures { Adds self.old (fixed w n) self.new }
     {
         // with no digit the line stays as it is, within its room
         prove!(self.len <= ROOM);
         for i in (0..w).rev() {
-            self.push((48 + units(n, i) % 10) as u8);
+            self.push(b'0' + (units(n, i) % 10) as u8);
         }
     }
 
-    // The digits of n without leading zeros.
+    // The digits of n without leading zeros. Tried: `write!(self, "{n}")`, and the proof did not close, since it promises a text on Ok alone and nothing promises Ok.
     pub fn put_number(&mut self, n: u64)
         ensures { Adds self.old (digits n) self.new }
     {
@@ -100,7 +100,7 @@ impl Line {
     pub fn price_column(&mut self, p: u32, s: u8)
         ensures { Adds self.old (next (price s p)) self.new }
     {
-        let scale = s as usize;
+        let scale = s as u32;
         self.put_separator();
         self.put_number(units(p as u64, scale));
         if scale != 0 {
@@ -153,23 +153,23 @@ impl Line {
 }
 
 // How many digits n has.
-fn width(n: u64) -> usize
+fn width(n: u64) -> u32
     ensures { result ≡ length (digits n) }
 {
-    if n < 10 {
-        return 1;
+    match n.checked_ilog10() {
+        Some(k) => k + 1,
+        None => 1,
     }
-    1 + width(n / 10)
 }
 
-// What stands before the last s digits of p: the units of a price at scale s.
-fn units(p: u64, s: usize) -> u64
-    ensures { result ≡ p / 10 ^ s }
+// What stands before the last s digits of n: the units of a price at scale s, and nothing where the power of ten is past 64 bits.
+fn units(n: u64, s: u32) -> u64
+    ensures { result ≡ n / 10 ^ s }
 {
-    if s == 0 {
-        return p;
+    match 10u64.checked_pow(s) {
+        Some(power) => n / power,
+        None => 0,
     }
-    units(p / 10, s - 1)
 }
 
 // A byte of a firm or a cross type, or a space in its place.

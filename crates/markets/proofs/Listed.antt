@@ -1,4 +1,4 @@
--- The lists of conditions once more, as plain bytes for each market and position, by computation; and a code is on a list where an entry has it and holds for the market.
+-- The lists of conditions once more, as plain bytes for each market and position, by computation.
 use mathlib.Core.Bool.{Bool, true, false, cond, ◌&&◌}
 use mathlib.Core.List.{List, [], ◌∷◌}
 use mathlib.Core.Path.{◌≡◌, refl, sym, ap, ◌∙◌}
@@ -38,28 +38,3 @@ every_list = record {
   texas = record { one = λ c. refl; two = λ c. refl; three = λ c. refl; four = λ c. refl };
   no_more = none_beyond;
 }
-
--- ---- the entry of a code decides
-abbrev pub on_list : Market → ℕ → List Code → Bool
-on_list market c [] = false
-on_list market c (k ∷ ks) = cond (eqb c k.code && k.markets market) true (on_list market c ks)
-
-pub member_on_list : (market : Market) (c : ℕ) (ks : List Code) → member c (codes_of market ks) ≡ on_list market c ks
-member_on_list market c [] = refl
-member_on_list market c (k ∷ ks) = go (k.markets market) (eqb c k.code) refl (member_on_list market c ks)
-  where
-    go : (held same : Bool) → eqb c k.code ≡ same → member c (codes_of market ks) ≡ on_list market c ks
-        → member c (cond held (k.code ∷ codes_of market ks) (codes_of market ks)) ≡ cond (same && held) true (on_list market c ks)
-    go true true e ih = rw e
-    go true false e ih = rw e ih
-    go false true e ih = ih
-    go false false e ih = ih
-
--- of a byte that is known
-pub entry_decides : (market : Market) (ks : List Code) (c k : ℕ) → c ≡ k → on_list market k ks ≡ member c (codes_of market ks)
-entry_decides market ks c k e = sym (member_on_list market c ks ∙ ap (λ (x : ℕ). on_list market x ks) e)
-
--- and of one that some markets alone list
-pub held_alone : (held : Bool) → held ≡ cond held true false
-held_alone false = refl
-held_alone true = refl

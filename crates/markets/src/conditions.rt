@@ -4,7 +4,7 @@ ghost use Rattle.markets.specs.Conditions.{on_texas, on_arca_american_nyse, list
 
 use crate::Market;
 
-// Does the market list this code as a condition? The first of the four positions is 0; beyond the last one nothing is listed.
+// Does the market list this code as a condition? The first of the four positions is 0; beyond the last one nothing is listed: a number and no enum, as `listed` takes it.
 #[tactic(auto, using(crate::proofs::Listed::none_beyond), unfolding(crate::specs::Conditions::listed))]
 pub fn condition_listed(market: Market, position: usize, code: u8) -> bool
     ensures { result ≡ listed market position code }

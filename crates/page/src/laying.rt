@@ -12,11 +12,12 @@ use crate::printing::{LAST_SECOND, emit};
 use crate::texts::{Setting, end_lines};
 use book::{Book, Noted};
 use columns::ROOM;
+use wire::Refusal;
 
 // As many answers are noted at a time: a part of 64 KiB has seldom more messages.
 const NOTES: usize = 4096;
 
-// A run that met its end in want of notes, and a laying in want of room.
+// A run that met its end in want of notes, and a laying in want of room. Document 01's number and no Option, as `answer` of `Laid` and of `Noted` is.
 const NO_ROOM: u8 = 15;
 
 // Texts that are laid: where the next message starts, the place of the last one, how many bytes there are, and of how many messages.
@@ -52,7 +53,7 @@ pub fn lay(book: Book, stream: &[u8], at: usize, place: u64, second: u32, out: &
             at,
             place,
             count: 0,
-            answer: 14,
+            answer: LineError::BadSecond.number(),
         };
     }
     let market = book.market();

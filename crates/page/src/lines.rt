@@ -83,7 +83,7 @@ impl Entry {
     }
 }
 
-// What is told of a symbol, and of one that isn't registered no name and scale 0.
+// What is told of a symbol, and of one that isn't registered no name and scale 0. A function and no From: neither Option nor Listing is a type of this crate.
 pub(crate) fn listing_of(told: Option<Listing>) -> Listing
     ensures { result ≡ listing_of told }
 {

@@ -1,5 +1,6 @@
 // Printing a line into a lent buffer.
 ghost use Rattle.std.specs.Prelude.{◌≡◌, ◌≤◌, length};
+ghost use Rattle.wire.specs.Message.{type_of};
 ghost use Rattle.book.specs.State.{view};
 ghost use Rattle.page.specs.Printing.{printed, has_no_line, laid, line_of, told, Appends};
 
@@ -25,7 +26,7 @@ pub fn line(
 ) -> Result<usize, LineError>
     ensures { printed result out.new ≡ line_of (view book).market (told book m) m plain sequence second out.old }
 {
-    if has_no_line(wire::type_of(m)) {
+    if has_no_line(m) {
         return Err(LineError::BadType);
     }
     if let Some(offset) = wire::bad_field(book.market(), m, plain) {
@@ -47,12 +48,12 @@ pub fn line(
     emit(text.bytes(), out)
 }
 
-// By the type number, as the rule has it (`has_no_line`).
+// Only an add and a cross have a line.
 #[tactic(auto, unfolding(crate::specs::Printing::has_no_line))]
-pub(crate) fn has_no_line(number: u16) -> bool
-    ensures { result ≡ has_no_line number }
+pub(crate) fn has_no_line(m: Message) -> bool
+    ensures { result ≡ has_no_line (type_of m) }
 {
-    !matches!(number, 100 | 111)
+    !matches!(m, Message::Add { .. } | Message::Cross { .. })
 }
 
 // A text to the start of out, where there is room for it.

@@ -39,7 +39,7 @@ impl Setting {
         let Ok(decoded) = read else {
             return 0;
         };
-        if has_no_line(wire::type_of(decoded.message)) {
+        if has_no_line(decoded.message) {
             return 0;
         }
         let listing = listing_of(self.names.told(wire::index_of(decoded.message)));

@@ -111,20 +111,13 @@ impl Symbols {
     pub fn seat(&self, index: u32) -> Option<Seat>
         ensures { Sits result (first_in self.now.tickets 0 symbols (suc index)) }
     {
-        Seat::of(seat_in(&self.tickets, index))
-    }
-}
-
-// The place of its ticket, or SYMBOLS, of which `seat` makes an Option.
-fn seat_in(tickets: &[u64; SYMBOLS], index: u32) -> usize
-    ensures { result ≡ first_in tickets.now 0 symbols (suc index) }
-{
-    let ticket = u64::from(index) + 1;
-    let mut at = SYMBOLS;
-    for j in (0..SYMBOLS).rev() {
-        if tickets[j] == ticket {
-            at = j;
+        let ticket = u64::from(index) + 1;
+        let mut seat = None;
+        for j in (0..SYMBOLS).rev() {
+            if self.tickets[j] == ticket {
+                seat = Seat::of(j);
+            }
         }
+        seat
     }
-    at
 }

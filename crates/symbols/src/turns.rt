@@ -14,6 +14,13 @@ use std::cmp::Ordering;
 // How many numbers a message can carry.
 const NUMBERS: u64 = 4294967296;
 
+// An empty place counts as stale, and its record as not whole.
+const NO_STANDING: Standing = Standing {
+    expected: 0,
+    stale: true,
+    whole: false,
+};
+
 // Why a number is not taken: nobody is registered, it was used before, it comes before its turn, or the symbol waits for its clear.
 #[derive(Clone, Copy, PartialEq, Eq)]
 pub enum TurnError {
@@ -48,18 +55,18 @@ impl Symbols {
         turn_of(self.places[k], number)
     }
 
-    // Where a symbol stands.
+    // Where a symbol stands. It is no Option: of nobody too it promises where he stands (`standing_of`, `no_standing`).
     pub fn standing(&self, k: usize) -> Standing
         ensures { result ≡ standing_of (get_or (entries self.now) k none) }
     {
         if SYMBOLS <= k {
-            return no_standing();
+            return NO_STANDING;
         }
         let p = self.places[k];
         if p.used {
             return p.standing;
         }
-        no_standing()
+        NO_STANDING
     }
 
     // The symbol becomes stale, and its record loses the mark.
@@ -120,51 +127,36 @@ fn turn(s: Standing, number: u32) -> Result<(), TurnError>
     }
 }
 
-// An empty place counts as stale, and its record as not whole.
-fn no_standing() -> Standing
-    ensures { result ≡ no_standing }
-{
-    Standing {
-        expected: 0,
-        stale: true,
-        whole: false,
-    }
-}
-
 fn staled(s: Standing) -> Standing
     ensures { result ≡ staled s }
 {
-    let mut refused = s;
-    refused.stale = true;
-    refused.whole = false;
-    refused
+    Standing {
+        stale: true,
+        whole: false,
+        ..s
+    }
 }
 
 fn counted_if(s: Standing, lost: bool) -> Standing
     ensures { result ≡ counted_if lost s }
 {
-    let mut next = s;
-    if s.expected < NUMBERS {
-        next.expected = s.expected + 1;
-        if lost {
-            next.whole = false;
-            return next;
-        }
-        return next;
+    if NUMBERS <= s.expected {
+        return s;
     }
-    next
+    Standing {
+        expected: s.expected + 1,
+        whole: s.whole && !lost,
+        ..s
+    }
 }
 
 fn restarted(s: Standing, next: u32) -> Standing
     ensures { result ≡ restarted next s }
 {
-    let n = u64::from(next);
-    let mut anew = s;
-    anew.stale = false;
-    anew.expected = n;
-    if n == s.expected {
-        return anew;
+    let expected = u64::from(next);
+    Standing {
+        expected,
+        stale: false,
+        whole: s.whole && expected == s.expected,
     }
-    anew.whole = false;
-    anew
 }

@@ -46,37 +46,15 @@ module _ (market : Market) (l : Layout) (f : Fields) (array : List ℕ) where
         unfolding fault_of first_bad
         side_first h = rw (nanos, volume, flag, h)
 
-        pub conditions_first : side_bad (ltb l.side l.letter) f.side ≡ false → fault_of market l f array ≡ first_bad (conditions_at l.coded l.plain market array)
-        unfolding fault_of first_bad
-        conditions_first h = rw (nanos, volume, flag, h)
-
--- the conditions likewise
+-- and the fourth condition, where those before it are listed
 module _ (market : Market) (at : ℕ) (array : List ℕ) where
   abbrev bad : ℕ → Bool
   bad i = not (listed market i (get_or array i 0))
 
-  pub first_condition : bad 0 ≡ true → first_bad (conditions_at true at market array) ≡ Some at
-  unfolding first_bad
-  first_condition h = rw h
-
-  module _ (one : bad 0 ≡ false) where
-    pub second_condition : bad 1 ≡ true → first_bad (conditions_at true at market array) ≡ Some (at + 1)
+  module _ (one : bad 0 ≡ false) (two : bad 1 ≡ false) (three : bad 2 ≡ false) where
+    pub fourth_condition : bad 3 ≡ true → first_bad (conditions_at true at market array) ≡ Some (at + 3)
     unfolding first_bad
-    second_condition h = rw (one, h)
-
-    module _ (two : bad 1 ≡ false) where
-      pub third_condition : bad 2 ≡ true → first_bad (conditions_at true at market array) ≡ Some (at + 2)
-      unfolding first_bad
-      third_condition h = rw (one, two, h)
-
-      module _ (three : bad 2 ≡ false) where
-        pub fourth_condition : bad 3 ≡ true → first_bad (conditions_at true at market array) ≡ Some (at + 3)
-        unfolding first_bad
-        fourth_condition h = rw (one, two, three, h)
-
-        pub none_unlisted : bad 3 ≡ false → first_bad (conditions_at true at market array) ≡ None
-        unfolding first_bad
-        none_unlisted h = rw (one, two, three, h)
+    fourth_condition h = rw (one, two, three, h)
 
 -- of those from the i-th on the first bad one is that one, or the first of those behind it
 module _ (market : Market) (at : ℕ) (array : List ℕ) where

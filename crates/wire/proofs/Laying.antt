@@ -3,8 +3,11 @@ use mathlib.Core.Path.{◌≡◌, refl, sym, ap, ◌∙◌}
 use mathlib.Core.List.{List, [], ◌∷◌, ◌++◌, append_assoc, append-nil}
 use Prim.Native.Nat.{ℕ, ◌+◌, ◌-◌, ◌≤◌}
 use native.Mathlib.Omega.{arith}
-use lib.ListN.{length, take, drop, length-append}
-use lib.Seq.{take_at, drop_at, drop-drop, length-take-le}
+use lib.ListN.{length, take, drop, length-append, length-drop}
+use lib.Seq.{take_at, drop_at, drop-drop, length-take-le, length-slice}
+use borrow.Rule.Slice.PartMut.{put_mid, post_of, Post-is}
+use Rattle.std.specs.List.{between}
+use Rattle.std.proofs.lemmas.Slice.{between_is}
 use Rattle.wire.specs.Bytes.{little_endian, splice, plain_room, stored, Rising, bytes_of}
 use Rattle.wire.specs.declared.table.Layout.{Layout}
 use Rattle.wire.specs.declared.fields.Fields.{Fields}
@@ -48,6 +51,41 @@ filled_all out (x ∷ ends) (y ∷ v) n a pre cur e r f =
     (filled_all out ends v n x (pre ++ little_endian (x - a) y) (splice cur a x (little_endian (x - a) y)) (omega arith) r.2
     (filled_next out pre cur (little_endian (x - a) y) a x r.0 (length_little_endian (x - a) y) f))
 
+-- ---- numbers written over the parts of a list, one part after the other
+abbrev pub laid : ℕ → List ℕ → List (List ℕ) → List ℕ → List ℕ
+laid a [] parts cur = cur
+laid a (e ∷ es) [] cur = cur
+laid a (e ∷ es) (part ∷ parts) cur = laid e es parts (put_mid a (e - a) cur part)
+
+-- each is the number at the length of the part
+abbrev pub Lays : ℕ → List ℕ → List ℕ → List (List ℕ) → List ℕ → Type 0
+Lays a [] v parts cur = Unit {0}
+Lays a (e ∷ es) [] parts cur = ⊥
+Lays a (e ∷ es) (x ∷ v) [] cur = ⊥
+Lays a (e ∷ es) (x ∷ v) (part ∷ parts) cur = (part ≡ little_endian (length (between a e cur)) x) × Lays e es v parts (put_mid a (e - a) cur part)
+
+put_splice : (a e : ℕ) (cur part : List ℕ) → a ≤ e → put_mid a (e - a) cur part ≡ splice cur a e part
+put_splice a e cur part h = sym (append_assoc (take a cur) part (post_of a (e - a) cur)) ∙ ap (λ (l : List ℕ). take a cur ++ part ++ l) (Post-is a e cur h)
+
+length_part : (a e : ℕ) (cur : List ℕ) → e ≤ length cur → length (between a e cur) ≡ e - a
+length_part a e cur h = ap length (between_is cur a e) ∙ length-slice a e cur h
+
+length_splice : (a e : ℕ) (cur part : List ℕ) → a ≤ e → e ≤ length cur → length part ≡ e - a → length (splice cur a e part) ≡ length cur
+length_splice a e cur part h k m = length-append (take a cur ++ part) (drop e cur) ∙ omega (arith, length-append (take a cur) part, length-take-le a cur (omega (arith, h, k)), length-drop e cur, m, h, k)
+
+-- so the list is stored, and is as long as it was
+laid_stored : (a : ℕ) (es v : List ℕ) (parts : List (List ℕ)) (cur : List ℕ) → Rising a es (length cur) → Lays a es v parts cur
+    → (laid a es parts cur ≡ stored a es v cur) × (length (laid a es parts cur) ≡ length cur)
+laid_stored a [] v parts cur r h = (refl, refl)
+laid_stored a (e ∷ es) [] parts cur r h = absurd h
+laid_stored a (e ∷ es) (x ∷ v) [] cur r h = absurd h
+laid_stored a (e ∷ es) (x ∷ v) (part ∷ parts) cur r h =
+    let is = h.0 ∙ ap (λ (n : ℕ). little_endian n x) (length_part a e cur r.1) in
+    let next = put_splice a e cur part r.0 ∙ ap (splice cur a e) is in
+    let long = ap length next ∙ length_splice a e cur (little_endian (e - a) x) r.0 r.1 (length_little_endian (e - a) x) in
+    let rest = laid_stored e es v parts (put_mid a (e - a) cur part) (rw long r.2) h.1 in
+    (rest.0 ∙ ap (stored e es v) next, rest.1 ∙ long)
+
 -- ---- the numbers, the byte array and the reserved byte at the end, stored in turn, are the message
 module _ (l : Layout) (s : Sane l) where
   pub ends_rise : (n : ℕ) → l.size ≤ n → Rising 0 (ends_of l) n
@@ -64,10 +102,22 @@ module _ (l : Layout) (s : Sane l) where
       let with_array = filled_next out (bytes_of 0 (ends_of l) v) (stored 0 (ends_of l) v out) d l.plain l.pad (omega arith) (length-take-le (l.pad - l.plain) plain (omega arith)) numbers in
       (filled_next out (bytes_of 0 (ends_of l) v ++ d) (splice (stored 0 (ends_of l) v out) l.plain l.pad d) (little_endian (l.size - l.pad) 0) l.pad l.size (omega arith) (length_little_endian (l.size - l.pad) 0) with_array).is
 
-  -- the same of three stores, each over what the one before it left
-  pub stored_in_turn : (out plain : List ℕ) (type : ℕ) (f : Fields) → l.size ≤ length out → length plain ≡ plain_room → (numbers array all : List ℕ)
-      → numbers ≡ stored 0 (ends_of l) (values_of l.size type f) out
-      → array ≡ splice numbers l.plain l.pad (take (l.pad - l.plain) plain)
-      → all ≡ splice array l.pad l.size (little_endian (l.size - l.pad) 0)
-      → all ≡ image_of l type f plain ++ drop l.size out
-  stored_in_turn out plain type f h k numbers array all p q r = r ∙ ap (λ (x : List ℕ). splice x l.pad l.size (little_endian (l.size - l.pad) 0)) (q ∙ ap (λ (x : List ℕ). splice x l.plain l.pad (take (l.pad - l.plain) plain)) p) ∙ stored_is_image out plain type f h k
+  -- the same of parts that were written in turn: the numbers, the array, and the last byte
+  pub laid_in_turn : (out plain : List ℕ) (type : ℕ) (f : Fields) → l.size ≤ length out → length plain ≡ plain_room
+      → (parts : List (List ℕ)) (array last : List ℕ)
+      → Lays 0 (ends_of l) (values_of l.size type f) parts out
+      → array ≡ take (length (between l.plain l.pad (laid 0 (ends_of l) parts out))) plain
+      → last ≡ little_endian (length (between l.pad l.size (put_mid l.plain (l.pad - l.plain) (laid 0 (ends_of l) parts out) array))) 0
+      → put_mid l.pad (l.size - l.pad) (put_mid l.plain (l.pad - l.plain) (laid 0 (ends_of l) parts out) array) last ≡ image_of l type f plain ++ drop l.size out
+  laid_in_turn out plain type f h k parts array last p q r =
+      let cur = laid 0 (ends_of l) parts out in
+      let numbers = laid_stored 0 (ends_of l) (values_of l.size type f) parts out (ends_rise (length out) h) p in
+      let within : length cur ≡ length out = numbers.1 in
+      let array_is : array ≡ take (l.pad - l.plain) plain = q ∙ ap (λ (n : ℕ). take n plain) (length_part l.plain l.pad cur (omega (arith, h, within))) in
+      let with_array = put_splice l.plain l.pad cur array (omega arith) ∙ ap (splice cur l.plain l.pad) array_is in
+      let as_many = ap length with_array ∙ length_splice l.plain l.pad cur (take (l.pad - l.plain) plain) (omega arith) (omega (arith, h, within)) (length-take-le (l.pad - l.plain) plain (omega (arith, k))) in
+      let all = put_mid l.plain (l.pad - l.plain) cur array in
+      let last_is = r ∙ ap (λ (n : ℕ). little_endian n 0) (length_part l.pad l.size all (omega (arith, h, within, as_many))) in
+      put_splice l.pad l.size all last (omega arith) ∙ ap (splice all l.pad l.size) last_is
+      ∙ ap (λ (x : List ℕ). splice x l.pad l.size (little_endian (l.size - l.pad) 0)) (with_array ∙ ap (λ (x : List ℕ). splice x l.plain l.pad (take (l.pad - l.plain) plain)) numbers.0)
+      ∙ stored_is_image out plain type f h k

@@ -11,6 +11,8 @@ use Rattle.std.proofs.Math.Nat.{div-div-eq-div-mul}
 use Rattle.wire.specs.Bytes.{value, little_endian, value_at, IsField}
 use Rattle.std.specs.Prelude.{Result, Ok, Err, IsOk, MatchResult, ◌≢◌}
 use Rattle.std.specs.Array.{IsWholeChunk}
+use Rattle.std.specs.List.{between}
+use Rattle.std.proofs.lemmas.Slice.{between_is}
 use mathlib.Core.Logic.{⊎_elim}
 use Rattle.wire.specs.RoundTrip.{Bytes}
 
@@ -28,6 +30,10 @@ pub value_before : (s : List ℕ) (i e : ℕ) → 0 < i → i ≤ e → e ≤ le
 value_before s i e p h k =
     let q : suc (i - 1) ≡ i = omega arith in
     sym (value_cons s (i - 1) e (omega arith) k ∙ ap (λ (j : ℕ). get_or s (i - 1) 0 + 256 * value_at s j e) q)
+
+-- the number of a part of a slice is the number that stands there
+pub value_part : (s : List ℕ) (a e : ℕ) → value (between a e s) ≡ value_at s a e
+value_part s a e = ap value (between_is s a e)
 
 -- ---- writing
 

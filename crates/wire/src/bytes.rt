@@ -1,7 +1,6 @@
 // Numbers and byte arrays in a slice.
-ghost use Rattle.std.specs.Prelude.{◌≡◌, ◌+◌, ◌-◌, ◌≤◌, ℕ, length, take};
-ghost use Rattle.std.proofs.Math.Seq.{slice};
-ghost use Rattle.wire.specs.Bytes.{value, value_at, little_endian, splice, padded_plain, plain_room, IsField};
+ghost use Rattle.std.specs.Prelude.{◌≡◌, ◌≤◌, ℕ, length, take};
+ghost use Rattle.wire.specs.Bytes.{value, little_endian, padded_plain, plain_room, IsField};
 
 use crate::PLAIN;
 
@@ -22,6 +21,7 @@ pub(crate) trait Number: Copy {
         ensures { field.new ≡ little_endian (length field.old) (worth self) };
 }
 
+// Four impls with one text: `rt ci` refuses an impl that a macro of the repository writes.
 impl Number for u8 {
     ghost width = { 1 };
 
@@ -82,36 +82,20 @@ impl Number for u64 {
     }
 }
 
-// The number of the bytes from a up to e.
-pub(crate) fn get<N: Number>(s: &[u8], a: usize, e: usize) -> N
-    requires { (a ≤ e) × (e ≤ length s.now) × IsField N.width (e - a) }
-    ensures { N.worth result ≡ value_at s.now a e }
-{
-    N::of(&s[a..e])
-}
-
-// Writes the number v over the bytes from a up to e.
-pub(crate) fn put<N: Number>(out: &mut [u8], a: usize, e: usize, v: N)
-    requires { (a ≤ e) × (e ≤ length out.old) × IsField N.width (e - a) }
-    ensures { out.new ≡ splice out.old a e (little_endian (e - a) (N.worth v)) }
-{
-    v.lay(&mut out[a..e]);
-}
-
-// The bytes from a up to e, and zeros after them.
-pub(crate) fn plain_at(s: &[u8], a: usize, e: usize) -> [u8; PLAIN]
-    requires { (a ≤ e) × (e ≤ a + plain_room) × (e ≤ length s.now) }
-    ensures { result ≡ padded_plain (slice a e s.now) }
+// The bytes of a field, and zeros after them.
+pub(crate) fn plain_at(field: &[u8]) -> [u8; PLAIN]
+    requires { length field.now ≤ plain_room }
+    ensures { result ≡ padded_plain field.now }
 {
     let mut plain = [0u8; PLAIN];
-    plain[..e - a].copy_from_slice(&s[a..e]);
+    plain[..field.len()].copy_from_slice(field);
     plain
 }
 
-// Writes the first bytes of a byte array over the bytes from a up to e.
-pub(crate) fn put_plain(out: &mut [u8], a: usize, e: usize, plain: [u8; PLAIN])
-    requires { (a ≤ e) × (e ≤ a + plain_room) × (e ≤ length out.old) }
-    ensures { out.new ≡ splice out.old a e (take (e - a) plain) }
+// Writes the first bytes of a byte array over the bytes of a field.
+pub(crate) fn put_plain(field: &mut [u8], plain: [u8; PLAIN])
+    requires { length field.old ≤ plain_room }
+    ensures { field.new ≡ take (length field.old) plain }
 {
-    out[a..e].copy_from_slice(&plain[..e - a]);
+    field.copy_from_slice(&plain[..field.len()]);
 }

@@ -3,7 +3,7 @@ ghost use Rattle.std.specs.Prelude.{◌≡◌, drop};
 ghost use Rattle.wire.specs.Reading.{reached_as, reach_of};
 
 use crate::ReachError;
-use crate::bytes::get;
+use crate::bytes::Number;
 
 // Msg Size and Msg Type: no message has fewer bytes.
 const LEAST: usize = 4;
@@ -24,7 +24,7 @@ pub(crate) fn first_reach(s: &[u8]) -> Result<usize, ReachError>
     if s.len() < LEAST {
         return Err(ReachError::Short);
     }
-    let size = usize::from(get::<u16>(s, 0, 2));
+    let size = usize::from(u16::of(&s[..2]));
     if size < LEAST {
         return Err(ReachError::Small);
     }

@@ -2,7 +2,7 @@
 ghost use Rattle.std.specs.Prelude.{◌≡◌, ◌+◌, ◌^◌, ◌≤◌, ◌<◌, true, length};
 ghost use Rattle.wire.specs.Fields.{Sane, Whole, fields_at, side_bad, volume_bad, conditions_at, first_bad, fault_of};
 
-use crate::bytes::get;
+use crate::bytes::Number;
 use crate::table::Layout;
 use crate::{BUY, PLAIN, SELL};
 use markets::{Market, condition_listed};
@@ -10,7 +10,7 @@ use markets::{Market, condition_listed};
 // A second has so many nanoseconds.
 const NANOS: u32 = 1000000000;
 
-// The fields of all the types, in the order of their offsets. Those that a type lacks are 0.
+// The fields of all the types, in the order of their offsets. Those that a type lacks are 0 and no Option: `fields_at` and `fields_of` say so.
 #[derive(Clone, Copy)]
 pub(crate) struct Fields {
     pub(crate) seconds: u32,
@@ -33,22 +33,23 @@ pub(crate) fn fields_at(s: &[u8], l: Layout) -> Fields
     ensures { result ≡ fields_at s.now l }
 {
     Fields {
-        seconds: get(s, 4, l.form),
-        nanos: get(s, l.form, l.form + 4),
-        index: get(s, l.form + 4, l.form + 8),
-        number: get(s, l.form + 8, l.order),
-        order: get(s, l.order, l.fresh),
-        fresh: get(s, l.fresh, l.id),
-        id: get(s, l.id, l.price),
-        price: get(s, l.price, l.volume),
-        volume: get(s, l.volume, l.flag),
-        flag: get(s, l.flag, l.side),
-        side: get(s, l.side, l.letter),
-        letter: get(s, l.letter, l.gap),
+        seconds: u32::of(&s[4..l.form]),
+        nanos: u32::of(&s[l.form..l.form + 4]),
+        index: u32::of(&s[l.form + 4..l.form + 8]),
+        number: u32::of(&s[l.form + 8..l.order]),
+        order: u64::of(&s[l.order..l.fresh]),
+        fresh: u64::of(&s[l.fresh..l.id]),
+        id: u32::of(&s[l.id..l.price]),
+        price: u32::of(&s[l.price..l.volume]),
+        volume: u32::of(&s[l.volume..l.flag]),
+        flag: u8::of(&s[l.flag..l.side]),
+        side: u8::of(&s[l.side..l.letter]),
+        letter: u8::of(&s[l.letter..l.gap]),
     }
 }
 
-// The first bad field, in the order of the offsets: those that document 01 calls bad, and the conditions that the market does not list.
+// The first bad field, in the order of the offsets: those that document 01 calls bad, and the conditions that the market does not list. Fields and array are
+// apart, as the rule of that name takes them.
 #[tactic(auto, unfolding(crate::specs::Fields::fault_of, crate::specs::Fields::first_bad))]
 pub(crate) fn fault_of(market: Market, l: Layout, f: Fields, plain: [u8; PLAIN]) -> Option<usize>
     requires { l.plain + 3 < 2 ^ 64 }
@@ -72,7 +73,7 @@ pub(crate) fn fault_of(market: Market, l: Layout, f: Fields, plain: [u8; PLAIN])
     None
 }
 
-// The first of the four conditions that the market does not list. They stand from `at` on.
+// The first of the four conditions that the market does not list. They stand from `at` on. The loop counts, since i is the position that the market is asked for.
 #[tactic(auto, using(crate::proofs::Checks::next_condition), unfolding(crate::specs::Fields::first_bad))]
 fn first_unlisted(market: Market, at: usize, plain: [u8; PLAIN]) -> Option<usize>
     requires { at + 3 < 2 ^ 64 }

@@ -39,7 +39,8 @@ pub struct Head {
     pub number: u32,
 }
 
-// A typed message: its scalar fields. Its byte array (firm, conditions or plain bytes) is kept beside it.
+// A typed message: its scalar fields. Its byte array (firm, conditions or plain bytes) is kept beside it. Sides, flags and letters are bytes and no enums: a
+// message made by hand may hold any byte, and is then refused with 4 (`bad_field_of`).
 #[derive(Clone, Copy)]
 pub enum Message {
     Add {
@@ -134,7 +135,7 @@ pub enum ReadError {
     BadField(usize),
 }
 
-// A message that was read, with its byte array beside it, zeros after its end.
+// A message that was read, with its byte array beside it, zeros after its end, which the layout of its type tells.
 #[derive(Clone, Copy)]
 pub struct Decoded {
     pub message: Message,
@@ -170,7 +171,7 @@ pub trait Refusal: Copy {
     fn number(self) -> u8
         ensures { result ≡ number self };
 
-    // The offset of the first bad field, with a 4; with every other number 0.
+    // The offset of the first bad field, with a 4. With every other number it is 0 and no Option: `Answered.offset` says so.
     fn offset(self) -> usize
         ensures { result ≡ offset self };
 
@@ -222,6 +223,7 @@ impl Refusal for WriteError {
         }
     }
 
+    // Alike for each error, and no plainer as one: a match names the variants of its own enum.
     fn offset(self) -> usize {
         match self {
             WriteError::BadField(n) => n,
@@ -240,7 +242,7 @@ pub fn number_of<T: Copy, E: Refusal>(r: Result<T, E>) -> u8
     }
 }
 
-// The offset of the first bad field, with a 4; with every other number 0.
+// The offset of the first bad field, with a 4. With every other number it is 0 and no Option: its clause says so.
 pub fn offset_of<T: Copy, E: Refusal>(r: Result<T, E>) -> usize
     ensures { result ≡ told_by E.offset r }
 {
@@ -250,7 +252,7 @@ pub fn offset_of<T: Copy, E: Refusal>(r: Result<T, E>) -> usize
     }
 }
 
-// How many bytes were written: none when refused.
+// How many bytes were written: none when refused, which is 0 and no Option: its clause says so.
 pub fn count_of<E: Copy>(r: Result<usize, E>) -> usize
     ensures { result ≡ result_unwrap_or r 0 }
 {

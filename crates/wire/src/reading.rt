@@ -3,7 +3,7 @@ ghost use Rattle.std.specs.Prelude.{◌≡◌};
 ghost use Rattle.wire.specs.Reading.{decoded_as, read_of};
 ghost use Rattle.wire.specs.RoundTrip.{WritesBack};
 
-use crate::bytes::{get, plain_at};
+use crate::bytes::{Number, plain_at};
 use crate::extent::first_reach;
 use crate::fields::{fault_of, fields_at};
 use crate::table::shape_of;
@@ -17,12 +17,12 @@ pub fn decode(market: Market, s: &[u8]) -> Result<Decoded, ReadError>
     ensures writes_back { WritesBack market s.now (decoded_as result) }
 {
     let size = first_reach(s)?;
-    let l = shape_of(get(s, 2, 4)).ok_or(ReadError::BadType)?;
+    let l = shape_of(u16::of(&s[2..4])).ok_or(ReadError::BadType)?;
     if size != l.size {
         return Err(ReadError::BadSize);
     }
     let f = fields_at(s, l);
-    let plain = plain_at(s, l.plain, l.pad);
+    let plain = plain_at(&s[l.plain..l.pad]);
     if let Some(n) = fault_of(market, l, f, plain) {
         return Err(ReadError::BadField(n));
     }

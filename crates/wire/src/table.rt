@@ -26,8 +26,9 @@ pub(crate) const N: usize = 4;
 pub(crate) const S: usize = 8;
 
 // Where each further field starts. All types have their fields in one order, and each field ends where the next one starts: a field that a type lacks
-// is empty. `fresh` is a replace's new order, `id` a trade or cross number, `flag` position or printable, `letter` cross type or indicator, `plain` firm, conditions or plain bytes; the
-// bytes of `gap` and `pad` are reserved. `positive` says that volume 0 is bad, `coded` that `plain` holds conditions.
+// is empty, and no Option, so that each has a start (`Sane`). `fresh` is a replace's new order, `id` a trade or cross number, `flag` position or printable,
+// `letter` cross type or indicator, `plain` firm, conditions or plain bytes; the bytes of `gap` and `pad` are reserved. `positive` says that volume 0 is bad,
+// `coded` that `plain` holds conditions.
 #[derive(Clone, Copy)]
 pub(crate) struct Layout {
     pub(crate) kind: Kind,

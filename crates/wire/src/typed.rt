@@ -94,22 +94,24 @@ pub(crate) fn message_of(k: Kind, f: Fields) -> Message
 }
 
 // The fields that every message has, and 0 for those that its type lacks.
-fn fields_of_head(head: Head) -> Fields
-    ensures { result ≡ fields_of_head head }
-{
-    Fields {
-        seconds: 0,
-        nanos: head.nanos,
-        index: head.index,
-        number: head.number,
-        order: 0,
-        fresh: 0,
-        id: 0,
-        price: 0,
-        volume: 0,
-        flag: 0,
-        side: 0,
-        letter: 0,
+impl From<Head> for Fields {
+    ghost from_gives = { λ head fields. fields ≡ fields_of_head head };
+
+    fn from(head: Head) -> Fields {
+        Fields {
+            seconds: 0,
+            nanos: head.nanos,
+            index: head.index,
+            number: head.number,
+            order: 0,
+            fresh: 0,
+            id: 0,
+            price: 0,
+            volume: 0,
+            flag: 0,
+            side: 0,
+            letter: 0,
+        }
     }
 }
 
@@ -129,7 +131,7 @@ impl From<Message> for Fields {
                 price,
                 volume,
                 side,
-                ..fields_of_head(head)
+                ..Fields::from(head)
             },
             Message::Modify {
                 head,
@@ -144,11 +146,11 @@ impl From<Message> for Fields {
                 volume,
                 flag: position,
                 side,
-                ..fields_of_head(head)
+                ..Fields::from(head)
             },
             Message::Delete { head, order } => Fields {
                 order,
-                ..fields_of_head(head)
+                ..Fields::from(head)
             },
             Message::Execute {
                 head,
@@ -163,7 +165,7 @@ impl From<Message> for Fields {
                 price,
                 volume,
                 flag: printable,
-                ..fields_of_head(head)
+                ..Fields::from(head)
             },
             Message::Replace {
                 head,
@@ -178,7 +180,7 @@ impl From<Message> for Fields {
                 price,
                 volume,
                 side,
-                ..fields_of_head(head)
+                ..Fields::from(head)
             },
             Message::NonDisplayed {
                 head,
@@ -191,7 +193,7 @@ impl From<Message> for Fields {
                 price,
                 volume,
                 flag: printable,
-                ..fields_of_head(head)
+                ..Fields::from(head)
             },
             Message::Cross {
                 head,
@@ -204,11 +206,11 @@ impl From<Message> for Fields {
                 price,
                 volume,
                 letter: class,
-                ..fields_of_head(head)
+                ..Fields::from(head)
             },
             Message::TradeCancel { head, trade } => Fields {
                 id: trade,
-                ..fields_of_head(head)
+                ..Fields::from(head)
             },
             Message::CrossCorrection {
                 head,
@@ -217,23 +219,23 @@ impl From<Message> for Fields {
             } => Fields {
                 id: cross,
                 volume,
-                ..fields_of_head(head)
+                ..Fields::from(head)
             },
             Message::Retail { head, indicator } => Fields {
                 letter: indicator,
-                ..fields_of_head(head)
+                ..Fields::from(head)
             },
             Message::Imbalance { head, seconds }
             | Message::Clear { head, seconds }
             | Message::Status { head, seconds } => Fields {
                 seconds,
-                ..fields_of_head(head)
+                ..Fields::from(head)
             },
         }
     }
 }
 
-// The type number of a message.
+// The type number of a message. A function, as `index_of` is: a message holds several numbers, and a `From` would not say which.
 pub fn type_of(m: Message) -> u16
     ensures { result ≡ type_of m }
 {
@@ -262,6 +264,7 @@ pub fn index_of(m: Message) -> u32
 }
 
 // The offset of the first bad field of a message with its byte array, where Msg Size stands at 0. A message that was read under the market has none; one that was made by hand may.
+// Message and array are apart, as document 01 keeps them and `bad_field_of` takes them.
 pub fn bad_field(market: Market, m: Message, plain: [u8; PLAIN]) -> Option<usize>
     ensures { fault_as result ≡ bad_field_of market m plain }
 {

@@ -4,7 +4,7 @@ ghost use Rattle.wire.specs.Fields.{Sane, Whole};
 ghost use Rattle.wire.specs.Writing.{image_of, wrote, write_of};
 ghost use Rattle.wire.specs.RoundTrip.{ReadsBack};
 
-use crate::bytes::{put, put_plain};
+use crate::bytes::{Number, put_plain};
 use crate::fields::{Fields, fault_of};
 use crate::table::{Layout, shape_of};
 use crate::typed::type_of;
@@ -12,6 +12,7 @@ use crate::{Message, PLAIN, WriteError};
 use markets::Market;
 
 // Writes a message with its byte array to the start of out, as the market sends it. Refused, it leaves every byte of out.
+// Message and array are apart, as document 01 keeps them and `write_of` takes them.
 pub fn encode(
     market: Market,
     m: Message,
@@ -39,21 +40,21 @@ fn put_message(out: &mut [u8], l: Layout, number: u16, f: Fields, plain: [u8; PL
     requires { Sane l × Whole l × (l.size ≤ length out.old) }
     ensures { out.new ≡ image_of l number f plain ++ drop l.size out.old }
 {
-    put(out, 0, 2, l.size as u16);
-    put(out, 2, 4, number);
-    put(out, 4, l.form, f.seconds);
-    put(out, l.form, l.form + 4, f.nanos);
-    put(out, l.form + 4, l.form + 8, f.index);
-    put(out, l.form + 8, l.order, f.number);
-    put(out, l.order, l.fresh, f.order);
-    put(out, l.fresh, l.id, f.fresh);
-    put(out, l.id, l.price, f.id);
-    put(out, l.price, l.volume, f.price);
-    put(out, l.volume, l.flag, f.volume);
-    put(out, l.flag, l.side, f.flag);
-    put(out, l.side, l.letter, f.side);
-    put(out, l.letter, l.gap, f.letter);
-    put(out, l.gap, l.plain, 0u8);
-    put_plain(out, l.plain, l.pad, plain);
-    put(out, l.pad, l.size, 0u8);
+    (l.size as u16).lay(&mut out[..2]);
+    number.lay(&mut out[2..4]);
+    f.seconds.lay(&mut out[4..l.form]);
+    f.nanos.lay(&mut out[l.form..l.form + 4]);
+    f.index.lay(&mut out[l.form + 4..l.form + 8]);
+    f.number.lay(&mut out[l.form + 8..l.order]);
+    f.order.lay(&mut out[l.order..l.fresh]);
+    f.fresh.lay(&mut out[l.fresh..l.id]);
+    f.id.lay(&mut out[l.id..l.price]);
+    f.price.lay(&mut out[l.price..l.volume]);
+    f.volume.lay(&mut out[l.volume..l.flag]);
+    f.flag.lay(&mut out[l.flag..l.side]);
+    f.side.lay(&mut out[l.side..l.letter]);
+    f.letter.lay(&mut out[l.letter..l.gap]);
+    0u8.lay(&mut out[l.gap..l.plain]);
+    put_plain(&mut out[l.plain..l.pad], plain);
+    0u8.lay(&mut out[l.pad..l.size]);
 }
