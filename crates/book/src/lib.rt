@@ -18,6 +18,7 @@ ghost use Rattle.book.specs.State.{view, Fresh};
 
 pub use depth::Depth;
 use markets::Market;
+pub use naming::told_number;
 use orders::Orders;
 pub use quote::{Quote, Volume};
 use record::Record;

@@ -2,7 +2,7 @@
 ghost use Rattle.std.specs.Prelude.{◌≡◌};
 ghost use Rattle.book.specs.State.{view};
 ghost use Rattle.book.specs.Promises.{Steps};
-ghost use Rattle.book.specs.Registering.{register_of, told_in};
+ghost use Rattle.book.specs.Registering.{register_of, told_in, told_number};
 
 use crate::{Book, Done};
 use symbols::{Listing, Symbols};
@@ -12,19 +12,14 @@ impl Book {
     pub fn register(mut self, index: u32, name: &[u8], scale: u8) -> Done
         ensures { Steps self (register_of (view self) index name.now scale) result }
     {
-        match self.symbols.register(index, name, scale) {
+        let answer = match self.symbols.register(index, name, scale) {
             Ok(next) => {
                 self.symbols = next;
-                Done {
-                    book: self,
-                    answer: 0,
-                }
+                0
             }
-            Err(e) => Done {
-                book: self,
-                answer: u8::from(e),
-            },
-        }
+            Err(e) => u8::from(e),
+        };
+        Done { book: self, answer }
     }
 
     // The symbols by themselves: whoever asks of many messages hands on these and not the whole state.
@@ -39,5 +34,15 @@ impl Book {
         ensures { result ≡ told_in index (view self.now) }
     {
         self.symbols.told(index)
+    }
+}
+
+// Document 01's number of what `symbol` tells: 5 where nobody is registered.
+pub fn told_number(told: Option<Listing>) -> u8
+    ensures { result ≡ told_number told }
+{
+    match told {
+        Some(_) => 0,
+        None => 5,
     }
 }

@@ -1,5 +1,5 @@
 -- A line under construction.
-use Rattle.std.specs.Prelude.{◌≡◌, List, ◌++◌, ℕ, length, take}
+use Rattle.std.specs.Prelude.{◌≡◌, List, ◌++◌, ℕ, ◌-◌, ◌≤◌, length, take, replicate}
 use Rattle.columns.specs.declared.Line.TheInside.{Inside}
 
 -- its room, and what it holds: its first len bytes
@@ -8,6 +8,13 @@ room = 640
 
 abbrev pub held : Inside → List ℕ
 held l = take l.len l.bytes
+
+-- the line that holds a text: zeros stand behind it, so that what a line holds tells all of it
+abbrev pub line_of : List ℕ → Inside
+line_of xs = record { bytes = xs ++ replicate (room - length xs) 0; len = length xs }
+
+abbrev pub IsLine : Inside → Type 0
+IsLine l = (l.len ≤ room) × (l ≡ line_of (held l))
 
 -- what it keeps of a text
 unfoldable pub clip : List ℕ → List ℕ

@@ -4,30 +4,35 @@
 ghost use Rattle.std.specs.Prelude.{ℕ, map, ◌≡◌, ◌≤◌, [], ◌∷◌, ◌/◌, ◌^◌, length};
 ghost use Rattle.columns.specs.Text.{comma, fixed, digits, text_byte};
 ghost use Rattle.columns.specs.Columns.{next, number, price, clock, bytes, text};
-ghost use Rattle.columns.specs.Held.{room, Adds};
+ghost use Rattle.columns.specs.Held.{room, Shows, Adds};
 
 use std::marker::Model;
 
 // Room for a line, or for a quote, at any scale that a byte can hold. At a scale that can be registered a line has at most 111 bytes.
 pub const ROOM: usize = 640;
 
-// A line under construction, which is seen as what it holds: its first len bytes. Its room is an array with a length, since a library has no heap. It is no Copy: tried, and Rattle refuses one to a type whose model gives no field back.
-#[derive(Clone, Drop)]
+// A line under construction, which is seen as what it holds: its first len bytes. Its room is an array with a length, since a library has no heap.
+#[derive(Clone, Copy)]
 pub struct Line {
     bytes: [u8; ROOM],
     len: usize,
 }
 
 impl Model for Line {
-    ghost use Rattle.std.specs.Prelude.{◌≤◌, List, ℕ};
+    ghost use Rattle.std.specs.Prelude.{List, ℕ};
+    ghost use Rattle.std.proofs.Common.{sym};
 
     ghost Value = { List ℕ };
 
-    ghost use Rattle.columns.specs.Held.{held, room};
+    ghost use Rattle.columns.specs.Held.{held, line_of, IsLine};
 
     ghost view = { held };
 
-    ghost invariant = { λ l. l.len ≤ room };
+    ghost invariant = { IsLine };
+
+    ghost inverse = { line_of };
+
+    ghost inverse_ok = { λ _ is_line. sym is_line.1 };
 }
 
 impl Line {
@@ -52,6 +57,7 @@ impl Line {
     pub fn bytes(&self) -> &[u8]
         ensures whole { result.now ≡ self.now }
         ensures fits { length result.now ≤ room }
+        ensures shows { Shows self.now result.now }
     {
         &self.bytes[..self.len]
     }

@@ -71,5 +71,5 @@ pub fn painterend_depth(book: Book, index: u32) -> Depth
 pub fn painterend_volume(book: Book, index: u32) -> Volume
     ensures { result ≡ volume_of index (view book) }
 {
-    book.day_volume(index)
+    book.into_day_volume(index)
 }

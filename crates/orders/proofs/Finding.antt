@@ -14,7 +14,7 @@ use Rattle.places.specs.Homes.{sought_in, free_in, Mirrored, Near}
 use Rattle.places.proofs.EightShelves.{shelf_reach, whole_shelf}
 use Rattle.places.proofs.Mirroring.{as_many_marks, found_near, free_on}
 use Rattle.orders.specs.State.{orders_each, no_order, order_number, order_live, shelf_at, Wf}
-use Rattle.orders.specs.Deciding.{OrderShelf, OrderAt, OrderRoom, place_of, room_in}
+use Rattle.orders.specs.Deciding.{OrderAt, OrderRoom, Searchable, place_of, room_in}
 use Rattle.orders.specs.declared.Order.{Order}
 use Rattle.orders.specs.declared.Orders.{Orders}
 
@@ -28,16 +28,17 @@ module _ (ls : List Bool) (size : length ls ≡ symbols * orders_each) (k : ℕ)
   found : (ss : List ℕ) → length ss ≡ symbols * orders_each → Near ns ls ss (k * orders_each) orders_each → (r : ℕ) → r ≡ sought_in ns ls ss (k * orders_each) orders_each number → OrderAt number (shelf orders_each k l) r
   found ss long near r e = rw e (found_near order_number order_live no_order refl refl l ns ls w orders_each k (omega arith) reach number ss (shelf_reach orders_each k ss long h) near)
 
--- ---- so in a sound state
-module _ (b : Orders) (k : ℕ) (h : k < symbols) (w : Wf b) (size : length b.lives ≡ symbols * orders_each) (number r : ℕ) where
+-- ---- so where a symbol can be searched
+module _ (b : Orders) (k : ℕ) (h : k < symbols) (w : Searchable b k) (size : length b.lives ≡ symbols * orders_each) (number r : ℕ) where
   pub room_at : r ≡ room_in b k number → OrderRoom (shelf_at b k) r
   room_at = free b.lives size k h number b.places b.numbers w.mirrored r
 
-  pub found_at : r ≡ sought_in b.numbers b.lives b.spans (k * orders_each) orders_each number → OrderAt number (shelf_at b k) r
-  found_at = found b.lives size k h number b.places b.numbers w.mirrored b.spans w.sized.spans (w.near k h) r
+  pub found_at : length b.spans ≡ symbols * orders_each → r ≡ sought_in b.numbers b.lives b.spans (k * orders_each) orders_each number → OrderAt number (shelf_at b k) r
+  found_at long = found b.lives size k h number b.places b.numbers w.mirrored b.spans long w.near r
 
-pub whole_at : (b : Orders) (k : ℕ) → k < symbols → Wf b → OrderShelf (shelf_at b k)
-whole_at b k h w = whole_shelf order_number order_live orders_each b.places k w.singles h w.sized.places
+-- in a sound state each symbol can be
+pub searchable : (b : Orders) (k : ℕ) → k < symbols → Wf b → Searchable b k
+searchable b k h w = record { whole = whole_shelf order_number order_live orders_each b.places k w.singles h w.sized.places; mirrored = w.mirrored; near = w.near k h }
 
 -- one past the last tells as much as any past it
 pub past_the_last : (n i : ℕ) (l : List Order) → orders_each ≤ i → OrderAt n l i → OrderAt n l orders_each

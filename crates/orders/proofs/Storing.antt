@@ -5,7 +5,7 @@ use mathlib.Core.Logic.{◌≢◌}
 use mathlib.Core.Path.{◌≡◌, refl, sym, ap, ◌∙◌}
 use Prim.Native.Nat.{ℕ, zero, suc, ◌+◌, ◌*◌, ◌<◌, ◌≤◌}
 use native.Mathlib.Omega.{arith}
-use borrow.Author.Tests.{ltb-true}
+use borrow.Author.Tests.{ltb-true, le-ltb}
 use lib.Dec.{eqb, ltb}
 use lib.ListN.{length, get_or, set, take, drop, replicate, length-set, length-replicate}
 use lib.Seq.{paste, paste-zero, paste-suc, drop-drop, take_all}
@@ -21,6 +21,7 @@ use Rattle.places.proofs.Landing.{shelf_placed}
 use Rattle.places.proofs.Nearness.{as_many_spans, near_stored, near_emptied}
 use Rattle.places.proofs.Mirroring.{as_many_numbers, as_many_marks, mirrored_set, mirrored_emptied}
 use Rattle.places.proofs.EightShelves.{shelf_reach, nothing_past, store_own, store_other, store_singles, emptied_own, emptied_other, emptied_singles}
+use Rattle.orders.proofs.Finding.{searchable}
 use Rattle.orders.specs.State.{orders_each, no_order, order_number, order_live, shelf_at, live_at, Sized, Wf}
 use Rattle.orders.specs.Rules.{apply_to}
 use Rattle.orders.specs.Deciding.{Decides, stays, lands, moves, misfits, crowds, Judges, room_in, with_order, settled_at, fit_by, emptied_to}
@@ -113,6 +114,16 @@ module _ (b : Orders) (k : ℕ) (h : k < symbols) (s : Sized b) where
   settled_obeys room_for v x misfits w = record { wf = w; fit = refl; own = refl; others = λ m ne. refl }
   settled_obeys room_for v x crowds w = record { wf = w; fit = refl; own = refl; others = λ m ne. refl }
 
+-- one place emptied, then one filled: where no place is emptied first, and where none is filled either
+abbrev pub landed_in : Orders → ℕ → ℕ → ℕ → Order → Orders
+landed_in b k gone place o = with_order (with_order b k gone no_order) k place o
+
+pub landed_once : (b : Orders) (k gone place : ℕ) (o : Order) → orders_each ≤ gone → with_order b k place o ≡ landed_in b k gone place o
+landed_once b k gone place o h = rw (le-ltb gone orders_each h)
+
+pub landed_nowhere : (b : Orders) (k gone place : ℕ) (o : Order) → orders_each ≤ gone → orders_each ≤ place → b ≡ landed_in b k gone place o
+landed_nowhere b k gone place o h j = rw (le-ltb gone orders_each h, le-ltb place orders_each j)
+
 settled_kept : (b : Orders) (k : ℕ) (v : Result Verdict Unfit) → fit_number (fit_by v) ≢ 0 → settled_at b k v ≡ b
 settled_kept b k (Ok v) ne = absurd (ne refl)
 settled_kept b k (Err e) ne = refl
@@ -124,7 +135,7 @@ module _ (b : Orders) (k : ℕ) (c : Change) where
   changes v h p = record {
     kept = settled_kept b k v;
     outside = λ o. absurd (omega (arith, h, o));
-    obeys = λ j w. settled_obeys b k h w.sized (room_in b k) v (apply_to (live_at b k) c) (p w) w;
+    obeys = λ j w. settled_obeys b k h w.sized (room_in b k) v (apply_to (live_at b k) c) (p (searchable b k h w)) w;
   }
 
   pub changes_nothing : symbols ≤ k → Changes b k c b (Err Unfit.Misfit)

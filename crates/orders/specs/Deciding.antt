@@ -3,8 +3,8 @@ use Rattle.std.specs.Prelude.{true, false, cond, List, ◌≡◌, ℕ, ◌*◌, 
 use Rattle.std.proofs.Math.Option.{none}
 use Rattle.feed.specs.Reader.{Fit, fits, misfit, no_room}
 use Rattle.places.specs.Places.{look, in_order, Shelf, FoundAt, FreeAt, placed, placed_in, Lands, emptied}
-use Rattle.places.specs.Homes.{free_in, spans_after}
-use Rattle.orders.specs.State.{orders_each, no_order, order_number, order_live, shelf_at, Wf}
+use Rattle.places.specs.Homes.{free_in, spans_after, Mirrored, Near}
+use Rattle.orders.specs.State.{orders_each, no_order, order_number, order_live, shelf_at}
 use Rattle.orders.specs.declared.Order.{Order}
 use Rattle.orders.specs.declared.Orders.{Orders}
 use Rattle.orders.specs.Rules.{apply_to}
@@ -25,6 +25,12 @@ OrderAt n l i = FoundAt order_number order_live no_order orders_each n l i
 
 abbrev pub OrderRoom : List Order → ℕ → Type 0
 OrderRoom l i = FreeAt order_live no_order orders_each l i
+
+-- symbol k can be searched, whatever the others are: none of its numbers is live twice, what searches read is that of the orders, and each of its live orders lies where they look for it
+pub record Searchable (b : Orders) (k : ℕ) : Type 0 where
+  pub whole : OrderShelf (shelf_at b k)
+  pub mirrored : Mirrored order_number order_live b.places b.numbers b.lives
+  pub near : Near b.numbers b.lives b.spans (k * orders_each) orders_each
 
 -- a place that was found, or one past the last
 abbrev pub place_of : Option ℕ → ℕ
@@ -53,9 +59,9 @@ pub data Decides (l : List Order) (room_for : ℕ → ℕ) : Result Verdict Unfi
   misfits : Decides l room_for (Err Unfit.Misfit) misfit
   crowds : Decides l room_for (Err Unfit.NoRoom) no_room
 
--- in a sound state
+-- where the symbol can be searched
 abbrev pub Judges : Orders → ℕ → Change → Result Verdict Unfit → Type 0
-Judges b k c r = Wf b → Decides (shelf_at b k) (room_in b k) r (apply_to (live_orders (shelf_at b k)) c)
+Judges b k c r = Searchable b k → Decides (shelf_at b k) (room_in b k) r (apply_to (live_orders (shelf_at b k)) c)
 
 -- ---- the stores
 -- an order at place i of symbol k: its number and mark beside it, and the spans follow

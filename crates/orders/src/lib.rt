@@ -22,7 +22,7 @@ pub use rows::{LEVELS, LevelRow, no_rows};
 pub const ORDERS: usize = 256;
 
 // The same, as searches take it.
-pub(crate) const EACH: u16 = ORDERS as u16;
+pub const EACH: u16 = ORDERS as u16;
 
 // The places of all symbols.
 pub const PLACES: usize = SYMBOLS * ORDERS;
@@ -96,7 +96,7 @@ impl Orders {
 }
 
 // An empty place, all zero.
-pub(crate) fn no_order() -> Order
+pub fn no_order() -> Order
     ensures { result ≡ no_order }
 {
     Order {

@@ -14,3 +14,4 @@ pub mod Passing
 pub mod DoneLines
 pub mod BadLines
 pub mod Answers
+pub mod Told

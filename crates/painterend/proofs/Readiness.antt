@@ -20,10 +20,11 @@ use Rattle.wire.proofs.Answers.{reach_refuses}
 use Rattle.book.specs.State.{view, Wf}
 use Rattle.columns.specs.Held.{room}
 use Rattle.book.specs.Walk.{Walk}
-use Rattle.page.specs.Printing.{printed_as, printed, laid}
+use Rattle.page.specs.Printing.{printed, laid}
 use Rattle.page.specs.Laying.{lay_of, Lays}
 use Rattle.page.specs.declared.LineError.{LineError}
 use Rattle.page.proofs.Cases.{laid_fits}
+use Rattle.page.proofs.Told.{count_printed}
 use Rattle.page.specs.declared.laying.Laid.{Laid}
 use Rattle.page.proofs.Passing.{LaysMessages, lays_passes}
 use Rattle.parts.specs.Parts.{part_room}
@@ -89,19 +90,11 @@ module _ (l : Laid) (part sheet : List ℕ) (x : Laid) (out : List ℕ) (h : len
       }
 
 -- ---- the end is laid
-counted : (p : Result ℕ LineError) → result_unwrap_or p 0 ≡ count_of (printed_as p).outcome
-counted (Ok n) = refl
-counted (Err LineError.BadType) = refl
-counted (Err (LineError.BadField n)) = refl
-counted (Err LineError.NoSymbol) = refl
-counted (Err LineError.BadSecond) = refl
-counted (Err LineError.NoRoom) = refl
-
 pub end_laid : (text before out : List ℕ) (p : Result ℕ LineError) (n : ℕ) → length text ≤ room → room ≤ length before → printed p out ≡ laid text before → n ≡ result_unwrap_or p 0 → (take n out ≡ text) × (n ≤ length out)
 end_laid text before out p n short long e count =
     let whole = e ∙ laid_fits text before (omega (arith, short, long)) in
     let bytes : out ≡ text ++ drop (length text) before = ap (λ (w : Write). w.out) whole in
-    let size : n ≡ length text = count ∙ counted p ∙ ap (λ (w : Write). count_of w.outcome) whole in
+    let size : n ≡ length text = count ∙ count_printed p ∙ ap (λ (w : Write). count_of w.outcome) whole in
     (ap (take n) bytes ∙ take_at text (drop (length text) before) n (sym size), omega (arith, size, ap length bytes, length-append text (drop (length text) before)))
 
 -- what was left stands at the front

@@ -1,14 +1,17 @@
 -- Tickets are the places' own, so the first ticket of a number is the first place that has it, and the first 0 the first empty place; and they stay so, whatever is stored in both.
-use mathlib.Core.Bool.{Bool, true, false, not}
+use mathlib.Core.Bool.{Bool, true, false, cond, not}
 use mathlib.Core.List.{List, map}
 use mathlib.Core.Path.{◌≡◌, refl, sym, ap, ◌∙◌}
 use Prim.Native.Nat.{ℕ, suc, ◌+◌, ◌*◌, ◌<◌, ◌≤◌}
 use native.Mathlib.Omega.{arith}
-use borrow.Author.Tests.{eqb-true, eqb-false, ne_eqb, eq-eqb}
+use borrow.Author.Tests.{eqb-true, eqb-false, ne_eqb, eq-eqb, lt-ltb}
 use lib.Dec.{eqb, ltb}
 use lib.ListN.{length, get_or, set, take, drop, replicate, length-map, length-drop, get_or-map}
 use lib.Seq.{set-get_or, length-take-le, get_or-take, get_or-drop}
-use Rattle.places.specs.Places.{shelf, first_where, has, placed_in, FoundAt, FreeAt}
+use Rattle.std.specs.List.{position_or_len}
+use Rattle.std.proofs.lemmas.List.Recursion.{is_position_or_len}
+use Rattle.std.proofs.lemmas.List.Sums.{position_or_len_is}
+use Rattle.places.specs.Places.{symbols, shelf, first_where, has, placed_in, spot_in, FoundAt, FreeAt}
 use Rattle.places.specs.Homes.{outside}
 use Rattle.places.specs.Tickets.{first_in, ticket, Ticketed}
 use Rattle.places.proofs.Rounds.{inside, not_outside}
@@ -17,6 +20,11 @@ use Rattle.places.proofs.Shelves.{shelf_length, shelf_get}
 use Rattle.places.proofs.Tables.{first_alike}
 use Rattle.places.proofs.Mirroring.{map_set, map_replicated}
 
+-- ---- the first place that passes is the library's
+library_first : {A : Type 0} (p : A → Bool) (l : List A) → first_where p l ≡ position_or_len p l
+unfolding first_where
+library_first p = is_position_or_len (first_where p) p refl (λ x xs. let one_more : suc (first_where p xs) ≡ 1 + first_where p xs = omega arith in ap (cond (p x) 0) one_more)
+
 -- ---- the search of a shelf that lies inside the list
 module _ (numbers : List ℕ) (from n number : ℕ) where
   abbrev sought : ℕ → Bool
@@ -24,6 +32,10 @@ module _ (numbers : List ℕ) (from n number : ℕ) where
 
   abbrev pub Back : ℕ → ℕ → Type 0
   Back j r = FirstFrom sought (take n (drop from numbers)) j r
+
+  pub first_outside : (out : Bool) → out ≡ outside from n (length numbers) → out ≡ true → n ≡ first_in numbers from n number
+  unfolding first_in
+  first_outside out told e = rw (sym told ∙ e)
 
   module _ (in_List : outside from n (length numbers) ≡ false) where
     long : length (take n (drop from numbers)) ≡ n
@@ -48,6 +60,11 @@ module _ (numbers : List ℕ) (from n number : ℕ) where
 
     pub back_first : (r : ℕ) → Back 0 r → r ≡ first_in numbers from n number
     back_first r b = let e = from_the_first sought (take n (drop from numbers)) r b in e ∙ first_is _ refl
+
+    -- a place before which none has the number, and which has it or is past the last
+    pub first_found : (j : ℕ) → j ≤ n → ((i : ℕ) → i < j → sought (get_or numbers (from + i) 0) ≡ false) → (j < n → sought (get_or numbers (from + j) 0) ≡ true) → first_in numbers from n number ≡ j
+    first_found j h before hit = sym (first_is j (library_first sought (take n (drop from numbers)) ∙ position_or_len_is sought (take n (drop from numbers)) j 0 (rw long h)
+        (λ i g. rw (at_place i (omega (arith, g, h))) (before i g)) (λ g. let inner : j < n = rw long at g in rw (at_place j inner) (hit inner))))
 
 -- ---- a place's ticket
 dead_then : (t : Bool) → not t ≡ true → t ≡ false
@@ -86,6 +103,16 @@ module _ {A : Type 0} (key : A → ℕ) (live : A → Bool) where
       go : (t : Bool) → ltb i n ≡ t → Ticketed key live (placed_in n k l i a) (placed_in n k ts i (ticket key live a))
       go true e = rw e (ticketed_set l ts (k * n + i) a w)
       go false e = rw e w
+
+  -- at the spot of a place
+  pub ticketed_at_spot : (n k : ℕ) → k < symbols → (l : List A) (ts : List ℕ) (i : ℕ) (a d : A) → Ticketed key live l ts
+      → set ts (spot_in n k i) (ticket key live (cond (ltb i n) a (get_or l (spot_in n k i) d))) ≡ placed_in n k ts i (ticket key live a)
+  unfolding spot_in
+  ticketed_at_spot n k h l ts i a d w = go (ltb i n) refl
+    where
+      go : (t : Bool) → ltb i n ≡ t → set ts (spot_in n k i) (ticket key live (cond (ltb i n) a (get_or l (spot_in n k i) d))) ≡ placed_in n k ts i (ticket key live a)
+      go true e = rw (e, lt-ltb k symbols h)
+      go false e = rw (e, lt-ltb k symbols h) (ticketed_set l ts (k * n + 0) (get_or l (k * n + 0) d) w ∙ ap (map (ticket key live)) (set-get_or l (k * n + 0) d) ∙ sym w)
 
   pub ticketed_new : (n : ℕ) (z : A) → live z ≡ false → Ticketed key live (replicate n z) (replicate n 0)
   ticketed_new n z e = ap (replicate n) (sym (rw e refl)) ∙ sym (map_replicated (ticket key live) n z)

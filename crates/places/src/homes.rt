@@ -1,8 +1,9 @@
 // The home of a number, and the way round a shelf from it.
 ghost use Rattle.std.specs.Prelude.{◌≡◌, ◌<◌, ◌≤◌, min};
 ghost use Rattle.places.specs.Homes.{home_of, most_places, round_from, away_from, outside};
+ghost use Rattle.places.specs.Places.{spot_in};
 
-use crate::Shelf;
+use crate::{SYMBOLS, Shelf};
 
 // Two to the power of 32: what a half of a number is below.
 const HALF: u64 = 4294967296;
@@ -34,6 +35,17 @@ pub(crate) fn away_from(n: usize, home: usize, i: usize) -> usize
     ensures { (result ≡ away_from n home i) × (result < n) }
 {
     if home <= i { i - home } else { i + n - home }
+}
+
+// A place among all that can be looked at and stored to: place i of symbol k, or its first where i is none; and the first of all past the eighth symbol.
+pub fn spot(k: usize, each: u16, i: usize) -> usize
+    ensures { result ≡ spot_in each k i }
+{
+    let n = usize::from(each);
+    if SYMBOLS <= k {
+        return 0;
+    }
+    if i < n { k * n + i } else { k * n }
 }
 
 impl Shelf {

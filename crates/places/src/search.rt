@@ -2,6 +2,7 @@
 ghost use Rattle.std.specs.Prelude.{◌≡◌, false, cond, eqb};
 ghost use Rattle.places.specs.Places.{AtPlace};
 ghost use Rattle.places.specs.Homes.{sought_in, free_in};
+ghost use Rattle.places.specs.Tickets.{first_in};
 
 use crate::Shelf;
 use crate::homes::{capped, home_of, round_from};
@@ -49,6 +50,22 @@ impl Shelf {
             let p = self.from + i;
             if !lives[p] {
                 return Some(i);
+            }
+        }
+        None
+    }
+
+    // The first place of the shelf at which a number stands.
+    pub fn first(self, numbers: &[u64], number: u64) -> Option<usize>
+        ensures { AtPlace self.each result (first_in numbers.now self.from self.each number) }
+    {
+        let n = usize::from(self.each);
+        if self.lies_outside(numbers.len()) {
+            return None;
+        }
+        for j in 0..n {
+            if numbers[self.from + j] == number {
+                return Some(j);
             }
         }
         None

@@ -20,6 +20,11 @@ pub record LeftOut (k : Kept) (d : Deal) : Type 0 where
   pub lost : lost_by k d ≡ true
   pub kept : kept_after k d ≡ k
 
+-- a trade that is not kept is not cancelled, and no cross is
+pub cancel_missing : (k : Kept) (n : ℕ) → look trade_number n k.trades ≡ none → LeftOut k (Deal.Cancels n)
+unfolding deal_to
+cancel_missing k n e = record { lost = rw e refl; kept = rw e refl }
+
 module _ (k : Kept) (n v : ℕ) where
   -- ---- it counts: the mark stays, the shares move by its volume, and it is then found with that
   pub record CrossCounts : Type 0 where

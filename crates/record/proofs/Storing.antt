@@ -1,5 +1,5 @@
 -- A deal at place k obeys the rules: what is stored lands on the symbol's own shelf, and no other shelf is touched.
-use mathlib.Core.Bool.{Bool, true, false, false≢true}
+use mathlib.Core.Bool.{Bool, true, false, cond, false≢true}
 use mathlib.Core.List.{List}
 use mathlib.Core.Option.{Option, none, some}
 use mathlib.Core.Path.{◌≡◌, refl, sym, subst, ap, ◌∙◌}
@@ -7,20 +7,21 @@ use Prim.Native.Nat.{ℕ, ◌*◌, ◌<◌, ◌≤◌}
 use native.Mathlib.Omega.{arith}
 use borrow.Author.Tests.{lt-ltb, le-ltb}
 use borrow.Rule.Slice.PartMut.{put_mid, put_same, set_mid_at}
-use lib.ListN.{length, take, drop}
+use lib.Dec.{ltb}
+use lib.ListN.{length, get_or, take, drop}
 use Rattle.std.specs.Prelude.{Result, ⊤, is_err}
 use Rattle.std.specs.List.{take-map, drop-map}
-use Rattle.places.specs.Places.{symbols, shelf, on_shelf, placed_in, Lands}
+use Rattle.places.specs.Places.{symbols, shelf, on_shelf, placed_in, spot_in, Lands}
 use Rattle.places.specs.Tickets.{ticket}
 use Rattle.places.specs.Shelving.{Shelved, Reshelved}
 use Rattle.places.proofs.EightShelves.{nothing_past, shelf_reach}
 use Rattle.places.proofs.Shelves.{shelf_length}
-use Rattle.places.proofs.Ticketing.{as_many_tickets}
-use Rattle.places.proofs.Landing.{lands_nowhere}
+use Rattle.places.proofs.Ticketing.{as_many_tickets, ticketed_at_spot}
+use Rattle.places.proofs.Landing.{lands_nowhere, stored_at_spot}
 use Rattle.places.proofs.Shelving.{reshelved, own_shelf}
 use Rattle.record.specs.State.{trades_each, crosses_each, no_trade, no_cross, trade_number, trade_live, cross_number, cross_live, nothing_kept, kept_at, Wf}
 use Rattle.record.specs.Rules.{deal_to, after, cross_to, crossed_as, kept_after, lost_by, either}
-use Rattle.record.specs.Deciding.{Sound, Stored, stored, left_out, AtSpots}
+use Rattle.record.specs.Deciding.{Sound, Stored, stored, left_out, stored_at, AtSpots}
 use Rattle.record.specs.Promises.{Obeys, Deals}
 use Rattle.record.specs.declared.Trade.{Trade}
 use Rattle.record.specs.declared.Cross.{Cross}
@@ -194,3 +195,25 @@ nothing_comes b k w = record { wf = w; own = refl; lost = refl; others = λ m ne
 
 pub nothing_dealt : (b : Record) (k : ℕ) → k < symbols → Deals b k Deal.Nothing (record { trades = b; lost = false })
 nothing_dealt b k h = record { kept = λ e. absurd (false≢true e); outside = λ o. absurd (omega (arith, o, h)); obeys = λ g w. nothing_comes b k w }
+
+-- ---- stored at the spots of two places: what is to lie there, or again what lies there where the place is none
+module _ (b : Record) (k : ℕ) (h : k < symbols) (w : Wf b) (i : ℕ) (t : Trade) (j : ℕ) (x : Cross) where
+  abbrev slot : ℕ
+  slot = spot_in trades_each k i
+
+  abbrev corner : ℕ
+  corner = spot_in crosses_each k j
+
+  abbrev at_slot : Trade
+  at_slot = cond (ltb i trades_each) t (get_or b.places slot no_trade)
+
+  abbrev at_corner : Cross
+  at_corner = cond (ltb j crosses_each) x (get_or b.crosses corner no_cross)
+
+  pub stored_in : AtSpots b k i t j x (stored_at b slot at_slot (ticket trade_number trade_live at_slot) corner at_corner (ticket cross_number cross_live at_corner))
+  stored_in = record {
+    trade_is = stored_at_spot trades_each k h b.places i t no_trade;
+    ticket_is = ticketed_at_spot trade_number trade_live trades_each k h b.places b.tickets i t no_trade w.trades.ticketed;
+    cross_is = stored_at_spot crosses_each k h b.crosses j x no_cross;
+    stub_is = ticketed_at_spot cross_number cross_live crosses_each k h b.crosses b.stubs j x no_cross w.crosses.ticketed;
+  }

@@ -46,6 +46,15 @@ module _ {A : Type 0} (key : A → ℕ) where
     abbrev pub Replaces : List A → List ℕ → ℕ → A → List A → List ℕ → Result ⊤ Lost → Type 0
     Replaces l tickets n a = Stored l tickets a (other a n l)
 
+-- stored among all places: at one of the trades, with its ticket, and at one of the crosses, with its stub
+abbrev pub stored_at : Record → ℕ → Trade → ℕ → ℕ → Cross → ℕ → Record
+stored_at b slot t n corner x m = record {
+  places = set b.places slot t;
+  tickets = set b.tickets slot n;
+  crosses = set b.crosses corner x;
+  stubs = set b.stubs corner m;
+}
+
 -- ---- stored in place: at the spot of place i the trade t and its ticket, at that of place j the cross x and its stub. Where a place is none, what lay there lies there
 pub record AtSpots (b : Record) (k i : ℕ) (t : Trade) (j : ℕ) (x : Cross) (m : Record) : Type 0 where
   pub trade_is : m.places ≡ placed_in trades_each k b.places i t

@@ -19,11 +19,16 @@ use places::SYMBOLS;
 // Each symbol's own places for trades.
 pub const TRADES: usize = 128;
 
+// The same, as searches take it.
+pub const EACH: u16 = TRADES as u16;
+
 // The places of all symbols.
 pub const PLACES: usize = SYMBOLS * TRADES;
 
 // The same of crosses.
 pub const CROSSES: usize = 16;
+
+pub const CROSSES_EACH: u16 = CROSSES as u16;
 
 pub const CROSS_PLACES: usize = SYMBOLS * CROSSES;
 

@@ -12,7 +12,7 @@ ghost use Rattle.symbols.specs.State.{no_symbol, nobody};
 
 use places::SYMBOLS;
 pub use registering::{Listing, RegisterError};
-pub use turns::TurnError;
+pub use turns::{TurnError, counted, turn_of};
 
 // The longest name of a symbol, in bytes.
 pub const NAME: usize = 11;

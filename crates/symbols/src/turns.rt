@@ -3,7 +3,7 @@ ghost use Rattle.std.specs.Prelude.{◌≡◌, ltb, get_or};
 ghost use Rattle.std.proofs.Math.Option.{none};
 ghost use Rattle.symbols.specs.State.{entry_seen, entries};
 ghost use Rattle.symbols.specs.Answers.{answered, turn_number};
-ghost use Rattle.symbols.specs.Turns.{turn_answer, turn_at, standing_of, no_standing, staled, counted_if, restarted};
+ghost use Rattle.symbols.specs.Turns.{turn_answer, turn_at, standing_of, no_standing, staled, counted_if, restanding, restarted};
 ghost use Rattle.symbols.specs.Promises.{Alters};
 ghost use Rattle.symbols.specs.declared.Standing.{Standing};
 
@@ -103,13 +103,23 @@ impl Symbols {
 }
 
 // Whether a number is in its turn at a place.
-fn turn_of(p: Place, number: u32) -> Result<(), TurnError>
+pub fn turn_of(p: Place, number: u32) -> Result<(), TurnError>
     ensures { answered turn_number result ≡ turn_at (entry_seen p) number }
 {
     if p.used {
         turn(p.standing, number)
     } else {
         Err(TurnError::Unknown)
+    }
+}
+
+// A place whose symbol has used a number more.
+pub fn counted(p: Place, lost: bool) -> Place
+    ensures { result ≡ restanding p (counted_if lost p.standing) }
+{
+    Place {
+        standing: counted_if(p.standing, lost),
+        ..p
     }
 }
 

@@ -2,7 +2,7 @@
 use mathlib.Core.Path.{◌≡◌, refl, sym, ap, ◌∙◌}
 use mathlib.Core.List.{List, [], ◌∷◌}
 use Prim.Native.Nat.{ℕ, zero, suc, ◌+◌, ◌*◌, ◌-◌, ◌/◌, ◌%◌, ◌^◌, ◌≤◌, ◌<◌}
-use native.Mathlib.Nat.{pow-suc}
+use native.Mathlib.Nat.{zero-add, one-mul, mul_comm, mul_assoc, pow-zero, pow-suc}
 use native.Mathlib.Omega.{arith}
 use lib.ListN.{length, take, drop, get_or}
 use lib.Seq.{take-length, slice, slice-cons, slice_empty, length-slice}
@@ -34,6 +34,30 @@ value_before s i e p h k =
 -- the number of a part of a slice is the number that stands there
 pub value_part : (s : List ℕ) (a e : ℕ) → value (between a e s) ≡ value_at s a e
 value_part s a e = ap value (between_is s a e)
+
+-- ---- bytes written out
+pub value_one : (s : List ℕ) (a e : ℕ) → a < e → e ≤ a + 1 → e ≤ length s → get_or s a 0 ≡ value_at s a e
+value_one s a e h l k = let q : suc a ≡ e = omega (arith, h, l) in sym (value_cons s a e h k ∙ rw (q, value_empty s e) (omega arith))
+
+pub value_two : (s : List ℕ) (a : ℕ) → a + 2 ≤ length s → get_or s a 0 + 256 * get_or s (a + 1) 0 ≡ value_at s a (a + 2)
+value_two s a k =
+    let q : suc a ≡ a + 1 = omega arith in
+    sym (value_cons s a (a + 2) (omega arith) k ∙ rw q (ap (λ (x : ℕ). get_or s a 0 + 256 * x) (sym (value_one s (a + 1) (a + 2) (omega arith) (omega arith) k))))
+
+-- two parts, the first of w bytes
+value_joined : (s : List ℕ) (w a m e : ℕ) → a + w ≡ m → m ≤ e → e ≤ length s → value_at s a m + 256 ^ w * value_at s m e ≡ value_at s a e
+value_joined s zero a m e p h k = let q : a ≡ m = omega (arith, p) in rw (q, value_empty s m, zero-add, pow-zero, one-mul)
+value_joined s (suc w) a m e p h k =
+    let ih = value_joined s w (suc a) m e (omega (arith, p)) h k in
+    let x = value_cons s a m (omega (arith, p)) (omega (arith, h, k)) in
+    let y = value_cons s a e (omega (arith, p, h)) k in
+    rw (pow-suc, mul_comm (256 ^ w) 256, mul_assoc) (omega (arith, ih, x, y))
+
+pub value_four : (s : List ℕ) (a : ℕ) → a + 4 ≤ length s → value_at s a (a + 2) + 65536 * value_at s (a + 2) (a + 2 + 2) ≡ value_at s a (a + 4)
+value_four s a k = let q : a + 2 + 2 ≡ a + 4 = omega arith in rw q (value_joined s 2 a (a + 2) (a + 4) refl (omega arith) k)
+
+pub value_eight : (s : List ℕ) (a : ℕ) → a + 8 ≤ length s → value_at s a (a + 4) + 4294967296 * value_at s (a + 4) (a + 4 + 4) ≡ value_at s a (a + 8)
+value_eight s a k = let q : a + 4 + 4 ≡ a + 8 = omega arith in rw q (value_joined s 4 a (a + 4) (a + 8) refl (omega arith) k)
 
 -- ---- writing
 
