@@ -4,5 +4,6 @@ pub mod Levels
 pub mod Rows
 pub mod Passing
 pub mod Deciding
+pub mod Edits
 pub mod Laying
 pub mod Promises

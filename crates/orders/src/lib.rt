@@ -4,6 +4,7 @@
 #![tactic(auto)]
 
 mod changes;
+mod edits;
 mod levels;
 mod rows;
 mod rules;
@@ -14,6 +15,7 @@ ghost use Rattle.std.specs.Prelude.{◌≡◌};
 ghost use Rattle.orders.specs.State.{no_order, no_orders};
 ghost use Rattle.orders.specs.Promises.{unfit_number};
 
+pub use edits::{Edit, Kind, edit_of};
 pub use levels::Level;
 use places::SYMBOLS;
 pub use rows::{LEVELS, LevelRow, no_rows};

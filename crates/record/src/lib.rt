@@ -9,12 +9,14 @@ mod kept_crosses;
 mod kept_trades;
 mod rules;
 mod shares;
+mod spots;
 
 ghost use Rattle.std.specs.Prelude.{◌≡◌};
 ghost use Rattle.record.specs.State.{no_trades};
 
 use kept::Kept;
 use places::SYMBOLS;
+pub use spots::{cross_or, stub_of, ticket_of, trade_or};
 
 // Each symbol's own places for trades.
 pub const TRADES: usize = 128;

@@ -54,7 +54,7 @@ fn place_of(tickets: &[u64], ticket: u64) -> Option<usize>
 }
 
 // What searches read of a place.
-fn ticket<T: Kept>(x: T) -> u64
+pub(crate) fn ticket<T: Kept>(x: T) -> u64
     ensures { result ≡ ticket T.number T.live x }
 {
     if x.live() {
