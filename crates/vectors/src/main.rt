@@ -14,7 +14,7 @@ use shown::print_message;
 use std::fs::File;
 use std::io::{BufWriter, Write};
 use std::{env, io};
-use wire::{Message, PLAIN, ReadError, Refusal, count_of, number_of, offset_of};
+use wire::{Message, PLAIN, ReachError, Refusal, count_of, number_of, offset_of};
 
 // The most of a file that is read.
 const LONGEST: usize = 65536;
@@ -35,11 +35,16 @@ fn make(out: &mut impl Write, call: Call<'_>) -> io::Result<()> {
     }
 }
 
+// In these pieces, since where the buffered writer cuts hangs on them.
 fn reach(out: &mut impl Write, at: usize, bytes: &[u8]) -> io::Result<()> {
-    let reached = wire::reach_at(bytes, at).map_err(ReadError::from);
-    out.write_all(b"R")?;
-    print(out, number_of(reached))?;
-    print(out, count_of(reached))
+    match wire::reach_at(bytes, at) {
+        Ok(size) => {
+            out.write_all(b"R,0")?;
+            print(out, size)
+        }
+        Err(ReachError::Short) => out.write_all(b"R,1,0"),
+        Err(ReachError::Small) => out.write_all(b"R,2,0"),
+    }
 }
 
 fn decode(out: &mut impl Write, market: Market, bytes: &[u8]) -> io::Result<()> {
